@@ -1,0 +1,47 @@
+// Bytes read ahead, since a caller that takes one byte a call would cost one call of the system a byte.
+ghost use Rattle.std.specs.Prelude.{◌≤◌};
+ghost use Rattle.std.specs.Io.{ReadsAtMost};
+
+use crate::Failed;
+use std::io::Read;
+
+// As std's own buffers. It stands in the object, so that no reading wants memory.
+const CAPACITY: usize = 8192;
+
+// `held[start..end]` was read from the outside and not yet given on.
+#[derive(Drop)]
+pub(crate) struct Ahead {
+    held: [u8; CAPACITY],
+    start: usize,
+    end: usize,
+    ghost ordered: { start ≤ end },
+    ghost in_bounds: { end ≤ 8192 },
+}
+
+impl Ahead {
+    pub(crate) fn new() -> Ahead {
+        Ahead {
+            held: [0; CAPACITY],
+            start: 0,
+            end: 0,
+        }
+    }
+
+    // Gives bytes that are held; where none is, those that one read of `from` gives. Nothing is read for an empty place.
+    pub(crate) fn read<R: Read>(&mut self, from: &mut R, to: &mut [u8]) -> Result<usize, Failed>
+        ensures { ReadsAtMost result to.new }
+    {
+        if self.start == self.end && !to.is_empty() {
+            self.start = 0;
+            self.end = 0;
+            match from.read(&mut self.held) {
+                Ok(count) => self.end = count,
+                Err(_) => return Err(Failed),
+            }
+        }
+        let count = to.len().min(self.end - self.start);
+        to[..count].copy_from_slice(&self.held[self.start..self.start + count]);
+        self.start += count;
+        Ok(count)
+    }
+}
