@@ -1,0 +1,10 @@
+pub mod Digits
+pub mod Examples
+pub mod FirstText
+pub mod FirstValid
+pub mod Known
+pub mod Laws
+pub mod Longest
+pub mod Places
+pub mod Under
+pub mod Words

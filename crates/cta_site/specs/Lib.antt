@@ -1,0 +1,9 @@
+pub mod Listed
+pub mod Bare
+pub mod Names
+pub mod ValidSite
+pub mod Lookups
+pub mod Scans
+pub mod FirstSite
+pub mod Bytes
+pub mod Laws

@@ -1,0 +1,86 @@
+// Lists with room for more.
+ghost use Rattle.std.specs.Prelude.{◌≡◌, ◌+◌, ◌<◌, ◌≤◌, [], ◌∷◌, ◌++◌, length, IfOk, OnOk};
+
+use crate::no_memory::NoMemory;
+use crate::twin::Twin;
+use std::marker::Model;
+
+/// A list. Contracts see its items and the room that is left for more of them.
+#[derive(Drop)]
+pub struct Rows<T> {
+    inner: Vec<T>,
+}
+
+impl<T> Model for Rows<T> {
+    ghost use Rattle.std.specs.Prelude.{◌-◌, ◌≤◌, vec_capacity, vec_len};
+    ghost use Rattle.cta_site.specs.Listed.{Listed};
+
+    ghost Value = { Listed T };
+
+    ghost view = { λ r. record { items = r.inner.items; room = vec_capacity r.inner - vec_len r.inner } };
+}
+
+impl<T> Rows<T> {
+    /// The list of these items, with the room that the vector had. It takes no memory and constant time.
+    pub fn of(items: Vec<T>) -> Rows<T>
+        ensures { result.items ≡ items.items }
+    {
+        Rows { inner: items }
+    }
+
+    /// The items in their order, in constant time.
+    pub fn as_slice(&self) -> &[T]
+        ensures { result.now ≡ self.now.items }
+    {
+        self.inner.as_slice()
+    }
+
+    /// The number of items.
+    pub fn len(&self) -> usize
+        ensures { result ≡ length self.now.items }
+    {
+        self.inner.len()
+    }
+
+    /// Makes room for at least this many more items, and never makes the room smaller. NoMemory changes no item. Its cost is the number of items.
+    pub fn reserve(&mut self, more: u32) -> Result<(), NoMemory>
+        ensures items { self.new.items ≡ self.old.items }
+        ensures room { OnOk result (more ≤ self.new.room) }
+        ensures kept { self.old.room ≤ self.new.room }
+    {
+        match self.inner.reserve(more as usize) {
+            Ok(()) => Ok(()),
+            Err(_) => Err(NoMemory),
+        }
+    }
+
+    /// Adds an item behind the others, for which room is left. It takes no memory and constant time.
+    pub fn push(&mut self, item: T)
+        requires { 0 < self.old.room }
+        ensures items { self.new.items ≡ self.old.items ++ item ∷ [] }
+        ensures room { self.old.room ≤ self.new.room + 1 }
+    {
+        match self.inner.push(item) {
+            Ok(()) => {}
+            Err(_) => unreachable!(),
+        }
+    }
+}
+
+impl<T: Twin> Rows<T> {
+    // A list of equal items, in their order.
+    pub(crate) fn twin(&self) -> Result<Rows<T>, NoMemory>
+        ensures { IfOk result (λ rows. rows.items ≡ self.now.items) }
+    {
+        let items = self.inner.as_slice();
+        let mut twins = Vec::new(*self.inner.allocator());
+        for item in items {
+            let twin = item.twin()?;
+            match twins.push(twin) {
+                Ok(()) => {}
+                Err(_) => return Err(NoMemory),
+            }
+        }
+        Ok(Rows { inner: twins })
+    }
+}

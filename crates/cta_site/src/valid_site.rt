@@ -1,0 +1,265 @@
+// A site that keeps its rules.
+ghost use Rattle.std.specs.Prelude.{◌≡◌, ◌<◌, length, IfOk};
+ghost use Rattle.cta_site.specs.Bare.{bare_site};
+ghost use Rattle.cta_site.specs.Laws.{DrivesAreNamed, DrivesAreFound, TapesAreNamed, TapesAreFound, ClassesAreKnown, PoliciesAreKnown};
+ghost use Rattle.cta_site.specs.Lookups.{class_of, copies_of, policy_of, pool_of, drive_of, tape_of, HasRoute};
+ghost use Rattle.cta_site.specs.ValidSite.{IsValidSite};
+
+use crate::lookups::{
+    class_number, copies_at, directory_of, drive_place, policy_name, policy_number, pool_number,
+    route_of, tape_place,
+};
+use crate::no_memory::NoMemory;
+use crate::site::{
+    Class, Directory, Drive, Failure, Limits, Policy, Route, Rule, Site, Tape, TapePool, Vo,
+};
+use crate::text::Text;
+use crate::twin::site_twin;
+use std::marker::Model;
+
+/// A site that keeps the rules of a site (this project's own). Contracts see it as the `Site`, with no room to spare in its lists, so that two are equal where they say the same.
+///
+/// Virtual organisations, storage classes, tape pools, mount policies, libraries, tapes and drives are numbered from 0 in byte order of their names (VIDs for tapes), so order of numbers is order of names.
+#[derive(Drop)]
+pub struct ValidSite {
+    site: Site,
+}
+
+impl Model for ValidSite {
+    ghost use Rattle.cta_site.specs.declared.site.Site.{Site};
+    ghost use Rattle.cta_site.specs.Bare.{bare_site};
+    ghost use Rattle.cta_site.specs.ValidSite.{IsValidSite};
+
+    ghost Value = { Site };
+
+    ghost view = { λ v. bare_site v.site };
+
+    ghost invariant = { λ v. IsValidSite (bare_site v.site) };
+}
+
+impl ValidSite {
+    // The valid site that this site is.
+    pub(crate) fn of(site: Site) -> ValidSite
+        requires { IsValidSite (bare_site site) }
+        ensures { result ≡ bare_site site }
+    {
+        ValidSite { site }
+    }
+
+    /// That the site keeps the rules of a site: a law, which does nothing when it runs.
+    pub fn keeps_rules(&self)
+        ensures { IsValidSite self.now }
+    {
+        let _site = &self.site;
+    }
+
+    /// That drives and tapes are named: each name has its form and names one drive, and each VID one tape. A law, which does nothing when it runs.
+    pub fn names_differ(&self)
+        ensures drives_named { DrivesAreNamed self.now }
+        ensures drives_found { DrivesAreFound self.now }
+        ensures tapes_named { TapesAreNamed self.now }
+        ensures tapes_found { TapesAreFound self.now }
+    {
+        let _site = &self.site;
+    }
+
+    /// That a path's class and a caller's policy are the site's own, and that a path with a class has 1 to 4 copies. A law, which does nothing when it runs.
+    pub fn numbers_are_known(&self)
+        ensures classes { ClassesAreKnown self.now }
+        ensures policies { PoliciesAreKnown self.now }
+    {
+        let _site = &self.site;
+    }
+
+    /// The version of the site file's form.
+    pub fn version(&self) -> u32
+        ensures { result ≡ self.now.version }
+    {
+        self.site.version
+    }
+
+    /// The site's name.
+    pub fn sitename(&self) -> &Text
+        ensures { result.now ≡ self.now.sitename }
+    {
+        &self.site.sitename
+    }
+
+    /// The address of the site's WLCG Tape REST API.
+    pub fn endpoint(&self) -> &Text
+        ensures { result.now ≡ self.now.endpoint }
+    {
+        &self.site.endpoint
+    }
+
+    /// The name of the mount policy of whom no rule names.
+    pub fn default_policy(&self) -> &Text
+        ensures { result.now ≡ self.now.default_policy }
+    {
+        &self.site.default_policy
+    }
+
+    /// The name of the mount policy of repacks.
+    pub fn repack_policy(&self) -> &Text
+        ensures { result.now ≡ self.now.repack_policy }
+    {
+        &self.site.repack_policy
+    }
+
+    /// The site's limits, each in its range.
+    pub fn limits(&self) -> Limits
+        ensures value { result ≡ self.now.limits }
+        ensures valid { IsValidSite self.now }
+    {
+        self.site.limits
+    }
+
+    /// The virtual organisations, in the order of their numbers.
+    pub fn vos(&self) -> &[Vo]
+        ensures { result.now ≡ self.now.vos.items }
+    {
+        self.site.vos.as_slice()
+    }
+
+    /// The storage classes, in the order of their numbers.
+    pub fn classes(&self) -> &[Class]
+        ensures { result.now ≡ self.now.classes.items }
+    {
+        self.site.classes.as_slice()
+    }
+
+    /// The tape pools, in the order of their numbers.
+    pub fn pools(&self) -> &[TapePool]
+        ensures { result.now ≡ self.now.pools.items }
+    {
+        self.site.pools.as_slice()
+    }
+
+    /// The archive routes, in the file's order.
+    pub fn routes(&self) -> &[Route]
+        ensures { result.now ≡ self.now.routes.items }
+    {
+        self.site.routes.as_slice()
+    }
+
+    /// The mount policies, in the order of their numbers.
+    pub fn policies(&self) -> &[Policy]
+        ensures { result.now ≡ self.now.policies.items }
+    {
+        self.site.policies.as_slice()
+    }
+
+    /// The mount rules, in the file's order.
+    pub fn rules(&self) -> &[Rule]
+        ensures { result.now ≡ self.now.rules.items }
+    {
+        self.site.rules.as_slice()
+    }
+
+    /// The names of the libraries, in the order of their numbers.
+    pub fn libraries(&self) -> &[Text]
+        ensures { result.now ≡ self.now.libraries.items }
+    {
+        self.site.libraries.as_slice()
+    }
+
+    /// The tapes, in the order of their numbers.
+    pub fn tapes(&self) -> &[Tape]
+        ensures { result.now ≡ self.now.tapes.items }
+    {
+        self.site.tapes.as_slice()
+    }
+
+    /// The drives, in the order of their numbers.
+    pub fn drives(&self) -> &[Drive]
+        ensures { result.now ≡ self.now.drives.items }
+    {
+        self.site.drives.as_slice()
+    }
+
+    /// The directories, in the file's order.
+    pub fn directories(&self) -> &[Directory]
+        ensures { result.now ≡ self.now.directories.items }
+    {
+        self.site.directories.as_slice()
+    }
+
+    /// The planned failures, in the file's order.
+    pub fn failures(&self) -> &[Failure]
+        ensures { result.now ≡ self.now.failures.items }
+    {
+        self.site.failures.as_slice()
+    }
+
+    /// The number of the storage class that a path has: that of the longest site directory such that the path begins with it and a slash. None exactly where no site directory is so. The site has the class (`numbers_are_known`). Its cost is the sum of the lengths of the directories' paths and the number of classes.
+    pub fn class_of(&self, path: &[u8]) -> Option<u32>
+        ensures { result ≡ class_of self.now path.now }
+    {
+        let classes = self.site.classes.as_slice();
+        match directory_of(self.site.directories.as_slice(), path) {
+            Some(directory) => Some(class_number(classes, directory.class.as_bytes())),
+            None => None,
+        }
+    }
+
+    /// How many copies the path's storage class has, 1 to 4, and 0 where the path has no class. Its cost is that of `class_of`.
+    pub fn copies_of(&self, path: &[u8]) -> u8
+        ensures { result ≡ copies_of self.now path.now }
+    {
+        match self.class_of(path) {
+            Some(class) => copies_at(self.site.classes.as_slice(), class),
+            None => 0,
+        }
+    }
+
+    /// The number of the mount policy of a caller: of the requester's rule, else of the group's rule, else the default policy. The site has the policy (`numbers_are_known`). Its cost is the number of rules and policies.
+    pub fn policy_of(&self, requester: &[u8], group: &[u8]) -> u32
+        ensures { result ≡ policy_of self.now requester.now group.now }
+    {
+        let rules = self.site.rules.as_slice();
+        let default = self.site.default_policy.as_bytes();
+        let name = policy_name(rules, default, requester, group);
+        policy_number(self.site.policies.as_slice(), name)
+    }
+
+    /// The number of the pool that this copy, counted from 1, of the storage class of this number goes to. The site must have the class and a route for the copy. Its cost is the number of routes and pools.
+    pub fn pool_of(&self, class: u32, copy: u8) -> u32
+        requires class { class < length self.now.classes.items }
+        requires route { HasRoute self.now class copy }
+        ensures { result ≡ pool_of self.now class copy }
+    {
+        let class = &self.site.classes.as_slice()[class as usize];
+        match route_of(self.site.routes.as_slice(), class.name.as_bytes(), copy) {
+            Some(route) => pool_number(self.site.pools.as_slice(), route.pool.as_bytes()),
+            None => unreachable!(),
+        }
+    }
+
+    /// The number of the drive of this name, None exactly where no drive has it. Its cost is the number of drives.
+    pub fn drive_of(&self, name: &[u8]) -> Option<u32>
+        ensures { result ≡ drive_of self.now name.now }
+    {
+        match drive_place(self.site.drives.as_slice(), name) {
+            Some(place) => Some(place as u32),
+            None => None,
+        }
+    }
+
+    /// The number of the tape of this VID, None exactly where no tape has it. Its cost is the number of tapes.
+    pub fn tape_of(&self, vid: &[u8]) -> Option<u32>
+        ensures { result ≡ tape_of self.now vid.now }
+    {
+        match tape_place(self.site.tapes.as_slice(), vid) {
+            Some(place) => Some(place as u32),
+            None => None,
+        }
+    }
+
+    /// An equal site. Its cost is the size of the site's texts and lists; NoMemory changes nothing.
+    pub fn copy(&self) -> Result<ValidSite, NoMemory>
+        ensures { IfOk result (λ site. site ≡ self.now) }
+    {
+        let site = site_twin(&self.site)?;
+        Ok(ValidSite::of(site))
+    }
+}
