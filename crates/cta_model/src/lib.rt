@@ -1,0 +1,22 @@
+//! What the archive is asked and what it answers, as types, and in `specs/` the sequential archive: what each answer is,
+//! on which history. Every other crate of the archive is proved against these definitions.
+#![tactic(auto)]
+
+mod answers;
+mod asks;
+mod entries;
+mod examples;
+mod reports;
+mod states;
+
+pub use answers::{Answer, Refusal};
+pub use asks::{Ask, Direction, Fate, Fault, Item, Job, Look, Wanted, Who};
+pub use blob::Sum256;
+pub use cta_site::{NoMemory, Rows, TapeState, Text};
+pub use entries::{Actor, Entry};
+pub use examples::{both_copies_are_needed, flushed_is_on_tape, put_is_on_disk};
+pub use reports::{
+    FailedCopy, FileState, ItemState, Locality, PlaceInfo, QueueInfo, RepackInfo, RepackItem,
+    StageFileInfo, StageInfo, TapeInfo,
+};
+pub use states::{Candidate, Charge, Mount, Place, StageFile};
