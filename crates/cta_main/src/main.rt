@@ -1,0 +1,29 @@
+//! `cta`, the scheduler and catalogue of a tape archive. So far it replays a script for a site: `cta replay SITE` reads the site from the file SITE and the script from standard input, and writes the replies to standard output. For every status other than 0 it prints one line on standard error, and ends with the status's number.
+#![tactic(auto)]
+
+mod report;
+mod words;
+
+use crate::report::{complain, number};
+use crate::words::{site_path, words};
+use outside::{FileSource, StdSink, StdSource};
+use replay::{Status, replay_top};
+use std::process::ExitCode;
+
+// Runs over the real ends: the file that the words name, standard input and standard output.
+fn run(rt: &HostRuntime) -> Status {
+    let words = match words(rt) {
+        Ok(words) => words,
+        Err(status) => return status,
+    };
+    let mut site = FileSource::open(rt, site_path(&words));
+    let mut script = StdSource::new(rt);
+    let mut out = StdSink::new(rt);
+    replay_top(rt.alloc(), &words, &mut site, &mut script, &mut out)
+}
+
+fn main(rt: HostRuntime) -> ExitCode {
+    let status = run(&rt);
+    complain(&rt, status);
+    ExitCode::from(number(status))
+}

@@ -1,0 +1,63 @@
+-- The names of a site's drives.
+use Rattle.std.proofs.Common.{◌≡◌, ◌≢◌, ℕ, zero, suc, ◌+◌, ◌<◌, ◌≤◌, Bool, true, false, cond, List, [], ◌∷◌, length, map, get_or, Option, None, Some, refl, sym, ap, ◌∙◌, subst, arith, bytes_eq, MatchOption, nat_lt, not}
+use Rattle.std.specs.Prelude.{IsTrue}
+use Rattle.std.specs.List.{AllByRecursion, position, position_from}
+use Rattle.std.proofs.lemmas.List.Quantifiers.{position-Some}
+use Rattle.std.proofs.lemmas.Iterator.Adapters.{position_from-zero}
+use Rattle.std.proofs.lemmas.List.{get_or-map}
+use Rattle.std.proofs.lemmas.Slice.Eq.{bytes_eq-Decides}
+use Rattle.cta_site.specs.declared.site.Site.{Site}
+use Rattle.cta_site.specs.declared.site.Drive.{Drive}
+use Rattle.cta_site.specs.Lookups.{place_by}
+use Rattle.cta_site.specs.Names.{IsName, is_name_byte}
+use Rattle.cta_site.specs.ValidSite.{IsValidSite, drive_names}
+use Rattle.replay.specs.Bytes.{Without}
+use Rattle.replay.specs.Line.{drive_name}
+use Rattle.replay.proofs.Messages.{holds_at}
+
+abbrev name_of : Drive → List ℕ
+name_of d = d.name
+
+abbrev is_named : List ℕ → Drive → Bool
+is_named name d = bytes_eq (name_of d) name
+
+none_from : (i : ℕ) (ds : List Drive) (name : List ℕ) → position_from (is_named name) i ds ≡ None → (k : ℕ) → k < length ds → get_or (map name_of ds) k [] ≡ name → ⊥
+none_from i [] name e k h same = absurd (omega arith)
+none_from i (d ∷ ds) name e k h same = by_head (is_named name d) refl e (none_from (i + 1) ds name) k h same
+  where
+    by_head : (b : Bool) → b ≡ is_named name d → cond b (Some i) (position_from (is_named name) (i + 1) ds) ≡ None
+        → (position_from (is_named name) (i + 1) ds ≡ None → (k : ℕ) → k < length ds → get_or (map name_of ds) k [] ≡ name → ⊥) → (k : ℕ) → k < length (d ∷ ds) → get_or (map name_of (d ∷ ds)) k [] ≡ name → ⊥
+    by_head true t e later k h same = cc
+    by_head false t e later zero h same = let yes : bytes_eq (name_of d) name ≡ true = (bytes_eq-Decides (name_of d) name).1 same in cc
+    by_head false t e later (suc k) h same = later e k (omega arith) same
+
+-- what a look-up by name says
+found : (ds : List Drive) (name : List ℕ) (o : Option ℕ) → o ≡ place_by name_of ds name
+    → MatchOption o ((k : ℕ) → k < length ds → get_or (map name_of ds) k [] ≢ name) (λ k. (k < length ds) × (get_or (map name_of ds) k [] ≡ name))
+found ds name None e = none_from 0 ds name (sym (e ∙ position_from-zero (is_named name) ds))
+found ds name (Some k) e =
+    let d : Drive = record { name = []; library = [] } in
+    let p = position-Some (is_named name) ds k d (sym e) in
+    let same : name_of (get_or ds k d) ≡ name = (bytes_eq-Decides (name_of (get_or ds k d)) name).0 p.1 in
+    (p.0, get_or-map name_of ds k d [] p.0 ∙ same)
+
+pub drive_found : (site : Site) (name : List ℕ) (o : Option ℕ) → o ≡ place_by name_of site.drives.items name
+    → MatchOption o ((k : ℕ) → k < length site.drives.items → drive_name site k ≢ name) (λ k. (k < length site.drives.items) × (drive_name site k ≡ name))
+drive_found site name o e = found site.drives.items name o e
+
+plain_byte : (b : ℕ) → IsTrue (is_name_byte b) → b ≡ 32 → ⊥
+plain_byte b h e = let no : IsTrue false = subst (λ x. IsTrue (is_name_byte x)) e h in cc
+
+plain_bytes : (bs : List ℕ) → AllByRecursion (λ b. IsTrue (is_name_byte b)) bs → Without 32 bs
+plain_bytes [] p = tt
+plain_bytes (b ∷ bs) p = (plain_byte b p.0, plain_bytes bs p.1)
+
+length-names : (ds : List Drive) → length (map name_of ds) ≡ length ds
+length-names [] = refl
+length-names (d ∷ ds) = ap suc (length-names ds)
+
+-- the name of a drive of a valid site has no space
+pub Without-drive : (site : Site) (drive : ℕ) → IsValidSite site → drive < length site.drives.items → Without 32 (drive_name site drive)
+Without-drive site drive valid h =
+    let name : IsName (drive_name site drive) = holds_at IsName (drive_names site) drive [] valid.names.drives (omega (arith, length-names site.drives.items)) in
+    plain_bytes (drive_name site drive) name.bytes

@@ -1,0 +1,16 @@
+pub mod Numbers
+pub mod Parts
+pub mod Messages
+pub mod Drives
+pub mod Replies
+pub mod Taking
+pub mod Ending
+pub mod Behind
+pub mod Lines
+pub mod Running
+pub mod Texts
+pub mod Readings
+pub mod Completing
+pub mod Sites
+pub mod Whole
+pub mod Worked

@@ -1,0 +1,133 @@
+-- The texts of the lines that are built: they hold no LF, are short, and differ. And the texts of messages: they differ too.
+use Rattle.std.proofs.Common.{◌≡◌, ◌≢◌, ℕ, ◌<◌, ◌≤◌, ◌^◌, List, [], ◌∷◌, ◌++◌, length, codes, refl, sym, ap, ◌∙◌, arith, length-append}
+use Rattle.std.specs.Fmt.{decimal}
+use Rattle.std.proofs.lemmas.Fmt.{decimal_injective, length-decimal-le}
+use Rattle.std.proofs.lemmas.List.{append_cancel_left}
+use Rattle.cta_site.specs.declared.site.Site.{Site}
+use Rattle.replay.specs.Bytes.{Without, then_byte}
+use Rattle.replay.specs.Line.{text, http_text, http_words, then_word, IsHttp}
+use Rattle.replay.specs.Message.{Message, PutFile, AskInfo, IsMessage, IsNamedPath, message_text, with_body, info_body}
+use Rattle.replay.specs.declared.line.Line.{Line}
+use Rattle.replay.specs.declared.line.Line.TheVariants.{Http, Step, End}
+use Rattle.replay.proofs.Parts.{same_words, Without-append, Without-decimal}
+use Rattle.replay.proofs.Messages.{Without-path, same_body}
+
+-- ---- lines
+
+-- a line of a record of bytes, or the line `end`
+abbrev pub IsBuiltLine : Line → Type 0
+IsBuiltLine (Http link moment len) = IsHttp link moment len
+IsBuiltLine (Step drive moment) = ⊥
+IsBuiltLine End = Unit {0}
+
+abbrev pub line_text : Line → List ℕ
+line_text (Http link moment len) = http_text link moment len
+line_text (Step drive moment) = []
+line_text End = codes "end"
+
+Without-word : (a b : List ℕ) → Without 10 a → Without 10 b → Without 10 (then_word a b)
+Without-word a b p q = Without-append 10 a (32 ∷ b) p ((λ e. omega arith), q)
+
+pub Without-text : (l : Line) → IsBuiltLine l → Without 10 (line_text l)
+Without-text (Http link moment len) h =
+    let words = Without-word (decimal link) (then_word (decimal moment) (decimal len)) (Without-decimal 10 link (omega arith) (omega arith))
+    (Without-word (decimal moment) (decimal len) (Without-decimal 10 moment (omega arith) (omega arith)) (Without-decimal 10 len (omega arith) (omega arith))) in
+    Without-word (codes "http") (http_words link moment len) ((λ e. omega arith), ((λ e. omega arith), ((λ e. omega arith), ((λ e. omega arith), tt)))) words
+Without-text (Step drive moment) h = absurd h
+Without-text End h = ((λ e. omega arith), ((λ e. omega arith), ((λ e. omega arith), tt)))
+
+pub length-text : (l : Line) → IsBuiltLine l → length (line_text l) ≤ 256
+length-text (Http link moment len) h =
+    let a : length (decimal link) ≤ 10 = length-decimal-le 10 link (omega arith) (omega arith) (omega arith) in
+    let b : length (decimal moment) ≤ 12 = length-decimal-le 12 moment (omega arith) (omega arith) (omega arith) in
+    let c : length (decimal len) ≤ 10 = length-decimal-le 10 len (omega arith) (omega arith) (omega arith) in
+    omega (arith, length-append (decimal link) (32 ∷ then_word (decimal moment) (decimal len)), length-append (decimal moment) (32 ∷ decimal len))
+length-text (Step drive moment) h = absurd h
+length-text End h = omega arith
+
+pub same_head : (x y : ℕ) (xs ys : List ℕ) → x ∷ xs ≡ y ∷ ys → x ≡ y
+same_head x y xs ys e = cc
+
+pub same_rest : (x y : ℕ) (xs ys : List ℕ) → x ∷ xs ≡ y ∷ ys → xs ≡ ys
+same_rest x y xs ys e = cc
+
+-- texts that begin with different bytes
+pub apart : (x y : ℕ) (xs ys : List ℕ) → x ≢ y → x ∷ xs ≡ y ∷ ys → ⊥
+apart x y xs ys ne e = ne (same_head x y xs ys e)
+
+same_http : (a b c a' b' c' : ℕ) → IsHttp a b c → IsHttp a' b' c' → http_words a b c ≡ http_words a' b' c' → (a ≡ a') × (b ≡ b') × (c ≡ c')
+same_http a b c a' b' c' h h' e =
+    let p = same_words 32 (decimal a) (decimal a') (then_word (decimal b) (decimal c)) (then_word (decimal b') (decimal c')) (Without-decimal 32 a (omega arith) (omega arith)) (Without-decimal 32 a' (omega arith) (omega arith)) e in
+    let q = same_words 32 (decimal b) (decimal b') (decimal c) (decimal c') (Without-decimal 32 b (omega arith) (omega arith)) (Without-decimal 32 b' (omega arith) (omega arith)) p.1 in
+    (decimal_injective a a' (omega arith) (omega arith) p.0, decimal_injective b b' (omega arith) (omega arith) q.0, decimal_injective c c' (omega arith) (omega arith) q.1)
+
+-- two lines differ in their text
+same_text : (l l' : Line) → IsBuiltLine l → IsBuiltLine l' → line_text l ≡ line_text l' → l ≡ l'
+same_text (Http a b c) (Http a' b' c') h h' e =
+    let words : http_words a b c ≡ http_words a' b' c' = append_cancel_left (codes "http ") (http_words a b c) (http_words a' b' c') e in
+    let p = same_http a b c a' b' c' h h' words in
+    ap (λ k. Http k b c) p.0 ∙ ap (λ k. Http a' k c) p.1 ∙ ap (Http a' b') p.2
+same_text (Http a b c) (Step a' b') h h' e = absurd h'
+same_text (Http a b c) End h h' e = absurd (apart 104 101 _ _ (λ f. omega arith) e)
+same_text (Step a b) l' h h' e = absurd h
+same_text End (Http a' b' c') h h' e = absurd (apart 101 104 _ _ (λ f. omega arith) e)
+same_text End (Step a' b') h h' e = absurd h'
+same_text End End h h' e = refl
+
+-- the first line of a text that begins with a line
+pub same_line : (l l' : Line) (x y : List ℕ) → IsBuiltLine l → IsBuiltLine l' → line_text l ++ 10 ∷ x ≡ line_text l' ++ 10 ∷ y → (l ≡ l') × (x ≡ y)
+same_line l l' x y h h' e =
+    let p = same_words 10 (line_text l) (line_text l') x y (Without-text l h) (Without-text l' h') e in
+    (same_text l l' h h' p.0, p.1)
+
+-- no `step` line begins so
+pub not_step : (site : Site) (drive moment : ℕ) (l : Line) (x y : List ℕ) → IsBuiltLine l → text site (Step drive moment) ++ x ≡ line_text l ++ y → ⊥
+not_step site drive moment (Http a b c) x y h e = apart 115 104 _ _ (λ f. omega arith) e
+not_step site drive moment (Step a b) x y h e = h
+not_step site drive moment End x y h e = apart 115 101 _ _ (λ f. omega arith) e
+
+-- what holds no LF ends at the latest where the first one stands
+pub length-without : (c : ℕ) (a b x y : List ℕ) → Without c a → a ++ x ≡ b ++ c ∷ y → length a ≤ length b
+length-without c [] b x y p e = omega arith
+length-without c (d ∷ a) [] x y p e = let same : d ≡ c = cc in absurd (p.0 same)
+length-without c (d ∷ a) (f ∷ b) x y p e = let tails : a ++ x ≡ b ++ c ∷ y = cc in let h = length-without c a b x y p.1 tails in omega arith
+
+pub same_front : (a b x y : List ℕ) → length a ≡ length b → a ++ x ≡ b ++ y → (a ≡ b) × (x ≡ y)
+same_front [] [] x y n e = (refl, e)
+same_front [] (d ∷ b) x y n e = absurd (omega arith)
+same_front (c ∷ a) [] x y n e = absurd (omega arith)
+same_front (c ∷ a) (d ∷ b) x y n e =
+    let heads : c ≡ d = cc in
+    let tails : a ++ x ≡ b ++ y = cc in
+    let p = same_front a b x y (omega arith) tails in
+    let front : a ≡ b = p.0 in
+    (cc, p.1)
+
+-- ---- messages
+
+length-body : (body : List ℕ) → length body ≤ length (with_body body)
+length-body body =
+    let rest = then_byte 13 (decimal (length body)) (codes "\n\r\n" ++ body) in
+    omega (arith, length-append (codes "HTTP/1.1\r\nHost: t\r\nContent-Length: ") rest, length-append (decimal (length body)) (13 ∷ (codes "\n\r\n" ++ body)))
+
+-- bodies of texts that are not too long
+same_sent : (x y : List ℕ) → length (with_body x) < 2 ^ 64 → with_body x ≡ with_body y → x ≡ y
+same_sent x y small e = let m = length-body x in let n = length-body y in let both = ap length e in same_body x y (omega arith) (omega arith) e
+
+pub same_message : (n : ℕ) (m m' : Message) → IsMessage n m → IsMessage n m' → length (message_text m) < 2 ^ 64 → message_text m ≡ message_text m' → m ≡ m'
+same_message n (PutFile path body) (PutFile path' body') h h' small e =
+    let rest = append_cancel_left (codes "PUT /data") (then_byte 32 path (with_body body)) (then_byte 32 path' (with_body body')) e in
+    let p = same_words 32 path path' (with_body body) (with_body body') (Without-path 32 path (omega arith) h.0) (Without-path 32 path' (omega arith) h'.0) rest in
+    let fits : length (with_body body) < 2 ^ 64 = omega (arith, length-append path (32 ∷ with_body body)) in
+    ap (λ x. PutFile x body) p.0 ∙ ap (PutFile path') (same_sent body body' fits p.1)
+same_message n (PutFile path body) (AskInfo path') h h' small e =
+    absurd (apart 85 79 _ _ (λ f. omega arith) (same_rest 80 80 _ _ e))
+same_message n (AskInfo path) (PutFile path' body') h h' small e =
+    absurd (apart 79 85 _ _ (λ f. omega arith) (same_rest 80 80 _ _ e))
+same_message n (AskInfo path) (AskInfo path') h h' small e =
+    let sent = append_cancel_left (codes "POST /api/v1/archiveinfo ") (with_body (info_body path)) (with_body (info_body path')) e in
+    let fits : length (with_body (info_body path)) < 2 ^ 64 = omega (arith, length-append (codes "POST /api/v1/archiveinfo ") (with_body (info_body path))) in
+    let bodies = same_sent (info_body path) (info_body path') fits sent in
+    let named = append_cancel_left (codes "{\"paths\":[\"") (then_byte 34 path (codes "]}")) (then_byte 34 path' (codes "]}")) bodies in
+    let p = same_words 34 path path' (codes "]}") (codes "]}") (Without-path 34 path (omega arith) h) (Without-path 34 path' (omega arith) h') named in
+    ap AskInfo p.0

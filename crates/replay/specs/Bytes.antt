@@ -1,0 +1,15 @@
+-- Lists of bytes.
+use Rattle.std.specs.Prelude.{◌≡◌, ◌≢◌, ℕ, List, ◌∷◌, ◌++◌, length, slice_index}
+use Rattle.std.specs.List.{AllByRecursion}
+
+-- no byte of bs is c
+abbrev pub Without : ℕ → List ℕ → Type 0
+Without c bs = AllByRecursion (λ b. b ≢ c) bs
+
+-- bs begins with no `+`, and with `0` only where that is all
+abbrev pub IsPlain : List ℕ → Type 0
+IsPlain bs = (slice_index bs 0 ≢ 43) × (slice_index bs 0 ≡ 48 → length bs ≡ 1)
+
+-- a part, the byte that ends it, and the rest
+abbrev pub then_byte : ℕ → List ℕ → List ℕ → List ℕ
+then_byte c part rest = part ++ c ∷ rest

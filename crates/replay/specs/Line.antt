@@ -1,0 +1,52 @@
+-- The lines of a script, by their one spelling.
+use Rattle.std.specs.Prelude.{ℕ, ◌<◌, ◌≤◌, List, [], length, slice_index_or, codes}
+use Rattle.std.specs.Fmt.{decimal}
+use Rattle.cta_site.specs.ValidSite.{drive_names}
+use Rattle.cta_site.specs.declared.site.Site.{Site}
+use Rattle.replay.specs.Bytes.{then_byte}
+use Rattle.replay.specs.declared.line.Line.{Line}
+use Rattle.replay.specs.declared.line.Line.TheVariants.{Http, Step, End}
+
+-- a word, a space and the rest
+abbrev pub then_word : List ℕ → List ℕ → List ℕ
+then_word word rest = then_byte 32 word rest
+
+-- the name of the drive with this number
+abbrev pub drive_name : Site → ℕ → List ℕ
+drive_name site drive = slice_index_or (drive_names site) drive []
+
+-- what stands behind the word `http`: the link, the moment and the number of bytes
+abbrev pub http_words : ℕ → ℕ → ℕ → List ℕ
+http_words link moment len = then_word (decimal link) (then_word (decimal moment) (decimal len))
+
+-- what stands behind the word `step`: the name of the drive with this number, and the moment
+abbrev pub step_words : Site → ℕ → ℕ → List ℕ
+step_words site drive moment = then_word (drive_name site drive) (decimal moment)
+
+-- the line that begins a record of bytes
+abbrev pub http_text : ℕ → ℕ → ℕ → List ℕ
+http_text link moment len = then_word (codes "http") (http_words link moment len)
+
+-- a line without the LF that ends it
+abbrev pub text : Site → Line → List ℕ
+text site (Http link moment len) = http_text link moment len
+text site (Step drive moment) = then_word (codes "step") (step_words site drive moment)
+text site End = codes "end"
+
+-- the greatest moment: the last second of the year 9999
+abbrev pub last_moment : ℕ
+last_moment = 253402300799
+
+-- the numbers of an `http` line
+abbrev pub IsHttp : ℕ → ℕ → ℕ → Type 0
+IsHttp link moment len = (link ≤ 1023) × (moment ≤ last_moment) × (len ≤ 2147483648)
+
+-- the numbers of a `step` line: a drive of the site, and a moment
+abbrev pub IsStep : Site → ℕ → ℕ → Type 0
+IsStep site drive moment = (drive < length site.drives.items) × (moment ≤ last_moment)
+
+-- a line of a script for a site
+abbrev pub IsLine : Site → Line → Type 0
+IsLine site (Http link moment len) = IsHttp link moment len
+IsLine site (Step drive moment) = IsStep site drive moment
+IsLine site End = Unit {0}

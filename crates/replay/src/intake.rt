@@ -1,0 +1,162 @@
+// Bytes, lines and the bytes of records, taken from a script.
+ghost use Rattle.std.specs.Prelude.{◌≡◌, ◌≤◌, ◌<◌, ◌+◌, ◌++◌, [], IfErr, length, vec_len, vec_capacity};
+ghost use Rattle.replay.specs.Intake.{budget, Took, HasStopped, TookByte, TookLine, TookPiece, TookBytes};
+
+use outside::{Failed, Source};
+
+/// The most bytes of a script that are taken.
+pub const BUDGET: u64 = 4_294_967_296;
+
+/// The most bytes of a line before its LF.
+pub const LINE: usize = 256;
+
+// The most bytes that are taken at a time.
+const PIECE: usize = 4096;
+
+/// Why no further byte was taken.
+#[derive(Clone, Copy, Debug, PartialEq, Eq)]
+pub enum Stop {
+    /// The source is at its end.
+    End,
+    /// The source failed.
+    Fault,
+    /// As many bytes were taken as may be.
+    Full,
+    /// There was no room for it.
+    Memory,
+}
+
+/// How the reading of a line ended.
+#[derive(Clone, Copy, Debug, PartialEq, Eq)]
+pub enum LineEnd {
+    /// It has this many bytes before its LF.
+    Whole(usize),
+    /// It has more bytes than a line may have.
+    Long,
+    /// It was not ended.
+    Stopped(Stop),
+}
+
+/// How the reading of a record's bytes ended.
+#[derive(Clone, Copy, Debug, PartialEq, Eq)]
+pub enum BytesEnd {
+    /// All were taken.
+    All,
+    /// Only some were.
+    Part(Stop),
+}
+
+// The next byte of the script.
+pub fn take_byte<S: Source>(script: &mut S, taken: &mut u64) -> Result<u8, Stop>
+    requires { taken.old ≤ budget }
+    ensures took { TookByte (S.left script.old) (S.left script.new) taken.old taken.new result }
+    ensures stopped { IfErr result (λ why.
+        HasStopped why (S.left script.new) taken.new (S.faults script.old) (S.faults script.new)) }
+    ensures later { S.faults script.old ≤ S.faults script.new }
+    ensures within { taken.new ≤ budget }
+{
+    if *taken == BUDGET {
+        return Err(Stop::Full);
+    }
+    let mut byte = [0u8; 1];
+    match script.read(&mut byte) {
+        Ok(0) => Err(Stop::End),
+        Ok(_) => {
+            *taken += 1;
+            Ok(byte[0])
+        }
+        Err(Failed) => Err(Stop::Fault),
+    }
+}
+
+// A line, put into the front of `line` without its LF.
+pub fn take_line<S: Source>(script: &mut S, taken: &mut u64, line: &mut [u8]) -> LineEnd
+    requires within { taken.old ≤ budget }
+    requires room { length line.old ≡ 256 }
+    ensures took { TookLine result (S.left script.old) (S.left script.new) taken.old taken.new
+        (S.faults script.old) (S.faults script.new) line.new }
+    ensures later { S.faults script.old ≤ S.faults script.new }
+    ensures within { taken.new ≤ budget }
+{
+    for n in 0..LINE {
+        match take_byte(script, taken) {
+            Ok(b'\n') => return LineEnd::Whole(n),
+            Ok(b) => line[n] = b,
+            Err(why) => return LineEnd::Stopped(why),
+        }
+    }
+    match take_byte(script, taken) {
+        Ok(b'\n') => LineEnd::Whole(LINE),
+        Ok(_) => LineEnd::Long,
+        Err(why) => LineEnd::Stopped(why),
+    }
+}
+
+// A piece of the script, put into the front of `piece`.
+pub fn take_piece<S: Source>(
+    script: &mut S,
+    taken: &mut u64,
+    piece: &mut [u8],
+) -> Result<usize, Stop>
+    requires room { 0 < length piece.old }
+    requires within { taken.old + length piece.old ≤ budget }
+    ensures took { TookPiece (S.left script.old) (S.left script.new) taken.old taken.new result piece.new }
+    ensures stopped { IfErr result (λ why.
+        HasStopped why (S.left script.new) taken.new (S.faults script.old) (S.faults script.new)) }
+    ensures later { S.faults script.old ≤ S.faults script.new }
+    ensures within { taken.new ≤ budget }
+{
+    match script.read(piece) {
+        Ok(0) => Err(Stop::End),
+        Ok(count) => {
+            *taken += count as u64;
+            Ok(count)
+        }
+        Err(Failed) => Err(Stop::Fault),
+    }
+}
+
+// Adds a piece, for which room is left.
+fn add(bytes: &mut Vec<u8>, piece: &[u8])
+    requires { vec_len bytes.old + length piece.now ≤ vec_capacity bytes.old }
+    ensures { bytes.new.items ≡ bytes.old.items ++ piece.now }
+{
+    match bytes.extend_from_slice(piece) {
+        Ok(()) => {}
+        Err(_) => unreachable!(),
+    }
+}
+
+// So many bytes of the script, put into `bytes`. Room is made before a byte is taken, so that what was taken is there.
+pub fn take_bytes<S: Source>(
+    script: &mut S,
+    taken: &mut u64,
+    len: u32,
+    bytes: &mut Vec<u8>,
+) -> BytesEnd
+    requires within { taken.old ≤ budget }
+    requires empty { bytes.old.items ≡ [] }
+    ensures took { TookBytes result (S.left script.old) (S.left script.new) taken.old taken.new
+        (S.faults script.old) (S.faults script.new) len bytes.new.items }
+    ensures later { S.faults script.old ≤ S.faults script.new }
+    ensures within { taken.new ≤ budget }
+{
+    let mut piece = [0u8; PIECE];
+    let wanted = len as usize;
+    while bytes.len() < wanted {
+        if *taken == BUDGET {
+            return BytesEnd::Part(Stop::Full);
+        }
+        let most = (wanted - bytes.len())
+            .min(PIECE)
+            .min((BUDGET - *taken) as usize);
+        if bytes.reserve(most).is_err() {
+            return BytesEnd::Part(Stop::Memory);
+        }
+        match take_piece(script, taken, &mut piece[..most]) {
+            Ok(count) => add(bytes, &piece[..count]),
+            Err(why) => return BytesEnd::Part(why),
+        }
+    }
+    BytesEnd::All
+}

@@ -1,0 +1,76 @@
+// The site file, read whole.
+ghost use Rattle.std.specs.Prelude.{◌≡◌, []};
+ghost use Rattle.replay.specs.SiteFile.{ArchiveMade, SiteRead, TookSite};
+
+use crate::status::Status;
+use archive::Archive;
+use cta_site::read_first_site;
+use outside::{Failed, Source};
+use std::alloc::Global;
+
+// The most bytes of a site file.
+const SITE_LIMIT: usize = 16_777_216;
+
+// The most bytes that are taken at a time.
+const PIECE: usize = 4096;
+
+/// How the reading of a site file ended.
+#[derive(Clone, Copy, Debug, PartialEq, Eq)]
+pub enum SiteEnd {
+    /// It was read to its end.
+    Whole,
+    /// It has more bytes than a site file may have.
+    Long,
+    /// Its source failed.
+    Fault,
+    /// Memory was wanted.
+    Memory,
+}
+
+// The whole site file, put into `bytes`, or one byte more than it may have.
+fn take_site<A: Source>(site: &mut A, bytes: &mut Vec<u8>) -> SiteEnd
+    requires { bytes.old.items ≡ [] }
+    ensures { TookSite result (A.left site.old) (A.left site.new) (A.faults site.old) (A.faults site.new) bytes.new.items }
+{
+    let mut piece = [0u8; PIECE];
+    while bytes.len() <= SITE_LIMIT {
+        let most = (SITE_LIMIT + 1 - bytes.len()).min(PIECE);
+        match site.read(&mut piece[..most]) {
+            Ok(0) => return SiteEnd::Whole,
+            Ok(count) => {
+                if bytes.extend_from_slice(&piece[..count]).is_err() {
+                    return SiteEnd::Memory;
+                }
+            }
+            Err(Failed) => return SiteEnd::Fault,
+        }
+    }
+    SiteEnd::Long
+}
+
+// An archive of the site that these bytes tell.
+fn archive_of(alloc: Global, bytes: &[u8]) -> Result<Archive, Status>
+    ensures { ArchiveMade result bytes.now }
+{
+    match read_first_site(alloc, bytes) {
+        Ok(Some(site)) => match Archive::new(alloc, site) {
+            Ok(archive) => Ok(archive),
+            Err(_) => Err(Status::NoMemory),
+        },
+        Ok(None) => Err(Status::NotBuilt { offset: 0 }),
+        Err(_) => Err(Status::NoMemory),
+    }
+}
+
+/// An archive of the site that a site file tells, which has kept nothing yet, or why there is none.
+pub fn read_archive<A: Source>(alloc: Global, site: &mut A) -> Result<Archive, Status>
+    ensures { SiteRead result (A.left site.old) (A.left site.new) (A.faults site.old) (A.faults site.new) }
+{
+    let mut bytes = Vec::new(alloc);
+    match take_site(site, &mut bytes) {
+        SiteEnd::Whole => archive_of(alloc, &bytes),
+        SiteEnd::Long => Err(Status::NotBuilt { offset: 0 }),
+        SiteEnd::Fault => Err(Status::ReadFault),
+        SiteEnd::Memory => Err(Status::NoMemory),
+    }
+}

@@ -1,0 +1,203 @@
+// Whole runs over sources and a sink in memory.
+use crate::{Status, replay_top};
+use outside::{MemSink, MemSource};
+use std::test::Fail;
+
+// The site file of the rows, up to the number of `buffer`, and behind that of `history`.
+const SITE_FRONT: &[u8] =
+    b"{\"classes\":[{\"copies\":1,\"name\":\"raw\",\"vo\":\"atlas\"}],\"defaultPolicy\":\"std\",\"directories\":[{\"class\":\"raw\",\"path\":\"/atlas\"}],\"drives\":[{\"library\":\"L1\",\"name\":\"d1\"}],\"endpoint\":\"https://tape.example.org/api/v1\",\"libraries\":[\"L1\"],\"limits\":{\"archiveBytes\":100,\"archiveFiles\":1,\"batchFiles\":10,\"buffer\":";
+
+const SITE_BACK: &[u8] =
+    b",\"lifetime\":60,\"retrieveBytes\":100,\"retrieveFiles\":1,\"tries\":3},\"policies\":[{\"archiveMinAge\":10,\"archivePriority\":1,\"name\":\"std\",\"retrieveMinAge\":10,\"retrievePriority\":1}],\"pools\":[{\"name\":\"p1\",\"vo\":\"atlas\"}],\"repackPolicy\":\"std\",\"routes\":[{\"class\":\"raw\",\"copy\":1,\"pool\":\"p1\"}],\"sitename\":\"T1\",\"tapes\":[{\"capacity\":1000,\"library\":\"L1\",\"pool\":\"p1\",\"state\":\"ACTIVE\",\"vid\":\"V1\"}],\"version\":1,\"vos\":[{\"name\":\"atlas\",\"readDrives\":1,\"writeDrives\":1}]}";
+
+const LIMITS: &[u8] = b"1000,\"file\":1000,\"history\":1000";
+
+const PUT_A: &[u8] =
+    b"http 0 100 63\nPUT /data/atlas/a HTTP/1.1\r\nHost: t\r\nContent-Length: 5\r\n\r\nhello\n";
+
+const INFO_A: &[u8] =
+    b"http 0 100 88\nPOST /api/v1/archiveinfo HTTP/1.1\r\nHost: t\r\nContent-Length: 22\r\n\r\n{\"paths\":[\"/atlas/a\"]}\n";
+
+const STORED: &[u8] = b"reply 0 43\nHTTP/1.1 201 Created\r\nContent-Length: 0\r\n\r\n\n";
+
+const ON_DISK: &[u8] =
+    b"reply 0 110\nHTTP/1.1 200 OK\r\nContent-Type: application/json\r\nContent-Length: 39\r\n\r\n[{\"locality\":\"DISK\",\"path\":\"/atlas/a\"}]\n";
+
+// These parts in one.
+fn joined(rt: &HostRuntime, parts: &[&[u8]]) -> Result<Vec<u8>, Fail> {
+    let mut bytes = Vec::new(rt.alloc());
+    for part in parts.iter() {
+        bytes.extend_from_slice(part)?;
+    }
+    Ok(bytes)
+}
+
+// That a run with these limits, of this script and what follows it, ends so, writes these frames and leaves the rest.
+fn ends(
+    rt: &HostRuntime,
+    limits: &[u8],
+    script: &[&[u8]],
+    rest: &[u8],
+    status: Status,
+    frames: &[&[u8]],
+) -> Result<bool, Fail> {
+    let word = String::from_str(rt.alloc(), "replay")?;
+    let file = String::from_str(rt.alloc(), "site")?;
+    let words = vec![in rt.alloc(); word, file]?;
+    let site = joined(rt, &[SITE_FRONT, limits, SITE_BACK])?;
+    let mut bytes = joined(rt, script)?;
+    bytes.extend_from_slice(rest)?;
+    let mut site = MemSource::new(site, Vec::new(rt.alloc()));
+    let mut script = MemSource::new(bytes, Vec::new(rt.alloc()));
+    let mut out = MemSink::new(rt.alloc(), Vec::new(rt.alloc()));
+    let ended = replay_top(rt.alloc(), &words, &mut site, &mut script, &mut out);
+    let wanted = joined(rt, frames)?;
+    Ok(ended == status && out.bytes() == wanted.as_slice() && script.left() == rest)
+}
+
+#[test]
+fn rows(rt: HostRuntime) -> Result<(), Fail> {
+    assert!(rt;
+        ends(
+            &rt,
+            LIMITS,
+            &[PUT_A, INFO_A, b"end\n"],
+            b"more",
+            Status::Ok,
+            &[STORED, ON_DISK]
+        )?
+    );
+    assert!(rt; ends(&rt, LIMITS, &[b"end\n"], b"", Status::Ok, &[])?);
+    assert!(rt;
+        ends(
+            &rt,
+            LIMITS,
+            &[b"http 0 100 63\nPUT"],
+            b"",
+            Status::Script { offset: 17 },
+            &[]
+        )?
+    );
+    assert!(rt;
+        ends(
+            &rt,
+            LIMITS,
+            &[PUT_A, b"http 0 100 88\nPUT"],
+            b"",
+            Status::Script { offset: 95 },
+            &[STORED]
+        )?
+    );
+    assert!(rt;
+        ends(
+            &rt,
+            LIMITS,
+            &[PUT_A],
+            b"",
+            Status::Script { offset: 78 },
+            &[STORED]
+        )?
+    );
+    assert!(rt;
+        ends(
+            &rt,
+            LIMITS,
+            &[PUT_A, b"step d1 100\n"],
+            b"end\n",
+            Status::NotBuilt { offset: 78 },
+            &[STORED]
+        )?
+    );
+    assert!(rt;
+        ends(
+            &rt,
+            LIMITS,
+            &[PUT_A, b"step d2 100\n"],
+            b"end\n",
+            Status::Script { offset: 78 },
+            &[STORED]
+        )?
+    );
+    assert!(rt;
+        ends(
+            &rt,
+            LIMITS,
+            &[b"http 0 100 5\nhello\n"],
+            b"end\n",
+            Status::NotBuilt { offset: 0 },
+            &[]
+        )?
+    );
+    assert!(rt;
+        ends(
+            &rt,
+            LIMITS,
+            &[b"http 0 100 5\nhelloo"],
+            b"\nend\n",
+            Status::Script { offset: 18 },
+            &[]
+        )?
+    );
+    Ok(())
+}
+
+#[test]
+fn refusals(rt: HostRuntime) -> Result<(), Fail> {
+    let taken =
+        b"reply 0 99\nHTTP/1.1 409 Conflict\r\nContent-Type: application/json\r\nContent-Length: 22\r\n\r\n{\"error\":\"path taken\"}\n".as_slice();
+    let full =
+        b"reply 0 115\nHTTP/1.1 503 Service Unavailable\r\nContent-Type: application/json\r\nContent-Length: 27\r\n\r\n{\"error\":\"history is full\"}\n".as_slice();
+    let no_space =
+        b"reply 0 109\nHTTP/1.1 507 Insufficient Storage\r\nContent-Type: application/json\r\nContent-Length: 20\r\n\r\n{\"error\":\"no space\"}\n".as_slice();
+    let a =
+        b"http 0 100 59\nPUT /data/atlas/a HTTP/1.1\r\nHost: t\r\nContent-Length: 1\r\n\r\n1\n".as_slice();
+    let b =
+        b"http 0 100 59\nPUT /data/atlas/b HTTP/1.1\r\nHost: t\r\nContent-Length: 1\r\n\r\n1\n".as_slice();
+    let c =
+        b"http 0 100 59\nPUT /data/atlas/c HTTP/1.1\r\nHost: t\r\nContent-Length: 1\r\n\r\n1\n".as_slice();
+    assert!(rt;
+        ends(
+            &rt,
+            b"1000,\"file\":1000,\"history\":2",
+            &[a, a, b, c, b"end\n"],
+            b"",
+            Status::Ok,
+            &[STORED, taken, STORED, full]
+        )?
+    );
+    let d =
+        b"http 0 100 66\nPUT /data/atlas/d HTTP/1.1\r\nHost: t\r\nContent-Length: 8\r\n\r\n12345678\n".as_slice();
+    let e =
+        b"http 0 100 66\nPUT /data/atlas/e HTTP/1.1\r\nHost: t\r\nContent-Length: 8\r\n\r\n12345678\n".as_slice();
+    assert!(rt;
+        ends(
+            &rt,
+            b"10,\"file\":10,\"history\":1000",
+            &[d, e, b"end\n"],
+            b"",
+            Status::Ok,
+            &[STORED, no_space]
+        )?
+    );
+    assert!(rt;
+        ends(
+            &rt,
+            b"10,\"file\":7,\"history\":1000",
+            &[d, b""],
+            b"end\n",
+            Status::NotBuilt { offset: 0 },
+            &[]
+        )?
+    );
+    assert!(rt;
+        ends(
+            &rt,
+            b"10,\"file\":11,\"history\":1000",
+            &[],
+            b"end\n",
+            Status::NotBuilt { offset: 0 },
+            &[]
+        )?
+    );
+    Ok(())
+}
