@@ -55,6 +55,7 @@ put_answer site h t path size =
     (refuse refusal.NoSpace (nat_lt (free_space site h + evictable_size site h t) size)
     (answer.Stored (rows (evicted_for site h t size))))))
 
+-- a Delete is refused where its path names no file
 abbrev pub delete_answer : History → List ℕ → Answer
 delete_answer h path = refuse refusal.NoFile (is_none (live_file h path)) answer.Done
 
@@ -65,11 +66,13 @@ abbrev pub request_answer : Option (List Wanted) → List (List ℕ) → Answer
 request_answer None paths = answer.Refused refusal.NoRequest
 request_answer (Some wanted) paths = refuse refusal.ForeignPath (not (list_all (λ p. has_text p (map (λ (w : Wanted). w.path) wanted)) paths)) answer.Done
 
+-- a DropStage is refused where its request was never made, or was dropped
 abbrev pub drop_answer : History → ℕ → Answer
 drop_answer h id = refuse refusal.NoRequest (is_none (request_of h id)) answer.Done
 
 -- ---- drive sessions
 
+-- what a Next is answered: that the candidate is mounted, under this number, or Idle where there is no candidate
 abbrev pub mounted : ℕ → Option Candidate → Answer
 mounted n None = answer.Idle
 mounted n (Some c) = answer.Mounted n c.direction c.tape
@@ -88,10 +91,12 @@ batch_answer site h t way [] = answer.Nothing
 batch_answer site h t direction.Archive (i ∷ items) = answer.Batch (rows (i ∷ items)) (rows [])
 batch_answer site h t direction.Retrieve (i ∷ items) = answer.Batch (rows (i ∷ items)) (rows (evicted_for site h t (size_of_items (i ∷ items))))
 
+-- the answer to a Claim of this mount, a refusal where there is no mount
 abbrev pub claim_by : Site → History → ℕ → Option Mount → Answer
 claim_by site h t None = answer.Refused refusal.Unknown
 claim_by site h t (Some m) = batch_answer site h t m.direction (batch_of site h t m)
 
+-- a Claim of an open mount takes its batch; that of any other mount is refused
 abbrev pub claim_answer : Site → History → ℕ → ℕ → Answer
 claim_answer site h t m = refuse refusal.Unknown (not (is_open h m)) (claim_by site h t (mount_of h m))
 
@@ -112,15 +117,18 @@ is_known h m jobs = is_open h m && (claims_all h m jobs && not (names_twice jobs
 abbrev pub fate_of : Site → History → Job → Fate
 fate_of site h j = if is_live_job site h j then fate.Done else fate.Stale
 
+-- two items are the same where their jobs, fSeqs, lengths and digests are
 abbrev pub same_item : Item → Item → Bool
 same_item a b = same_job a.job b.job && (a.fseq == b.fseq && (a.sum.len == b.sum.len && bytes_eq a.sum.digest b.sum.digest))
 
+-- two lists of items are the same where they have the same items in the same order
 abbrev pub same_items : List Item → List Item → Bool
 same_items [] [] = true
 same_items [] (b ∷ ys) = false
 same_items (a ∷ xs) [] = false
 same_items (a ∷ xs) (b ∷ ys) = same_item a b && same_items xs ys
 
+-- whether these are the items of the last batch, in its order; where there is no last batch, they are not
 abbrev pub is_last_batch : Option (List Item) → List Item → Bool
 is_last_batch None items = false
 is_last_batch (Some last) items = same_items items last
@@ -131,9 +139,11 @@ flushed_answer site h m items =
     refuse refusal.Unknown (not (is_known h m (item_jobs items) && is_last_batch (last_batch h m) items))
     (answer.Told (rows (map (λ (i : Item). fate_of site h i.job) items)))
 
+-- a Recalled names a job that its open mount claims, and is told the job's fate
 abbrev pub recalled_answer : Site → History → ℕ → Job → Answer
 recalled_answer site h m j = refuse refusal.Unknown (not (is_known h m (j ∷ []))) (answer.Arrived (fate_of site h j))
 
+-- a Failed names jobs that its open mount claims, charged and returned, none twice
 abbrev pub failed_answer : History → ℕ → List Job → Answer
 failed_answer h m jobs = refuse refusal.Unknown (not (is_known h m jobs)) answer.Done
 
@@ -143,6 +153,7 @@ end_answer h m = refuse refusal.Unknown (not (is_open h m && is_empty (claimed_i
 
 -- ---- drives and tapes
 
+-- a DriveUp or DriveDown is refused where the site has no such drive
 abbrev pub drive_answer : Site → ℕ → Answer
 drive_answer site d = refuse refusal.NoDrive (nat_le (length site.drives.items) d) answer.Done
 
@@ -158,6 +169,7 @@ abbrev pub live_files_in : History → History → List ℕ
 live_files_in h [] = []
 live_files_in h (e ∷ older) = live_files_in h older ++ (if is_live h (next_number older) then next_number older ∷ [] else [])
 
+-- the live files of the whole history, in the order of their Puts
 abbrev pub live_files : History → List ℕ
 live_files h = live_files_in h h
 
@@ -166,6 +178,7 @@ abbrev pub copies_on : ℕ → ℕ → List Place → List (ℕ × Job)
 copies_on v f [] = []
 copies_on v f (p ∷ ps) = if p.tape == v then (p.fseq, archive_job 0 f p.copy) ∷ copies_on v f ps else copies_on v f ps
 
+-- the copies of these files that have a place on a tape, file by file
 abbrev pub all_copies_on : Site → History → ℕ → List ℕ → List (ℕ × Job)
 all_copies_on site h v [] = []
 all_copies_on site h v (f ∷ files) = copies_on v f (all_places site h f) ++ all_copies_on site h v files
@@ -174,10 +187,12 @@ all_copies_on site h v (f ∷ files) = copies_on v f (all_places site h f) ++ al
 abbrev pub live_copies_on : Site → History → ℕ → List (ℕ × Job)
 live_copies_on site h v = all_copies_on site h v (live_files h)
 
+-- copies by fSeq with one more among them, before the first that has a higher fSeq
 abbrev pub insert_copy : ℕ × Job → List (ℕ × Job) → List (ℕ × Job)
 insert_copy x [] = x ∷ []
 insert_copy x (y ∷ ys) = if nat_lt x.0 y.0 then x ∷ y ∷ ys else y ∷ insert_copy x ys
 
+-- the same copies by fSeq
 abbrev pub sort_copies : List (ℕ × Job) → List (ℕ × Job)
 sort_copies [] = []
 sort_copies (x ∷ xs) = insert_copy x (sort_copies xs)
@@ -186,9 +201,11 @@ sort_copies (x ∷ xs) = insert_copy x (sort_copies xs)
 abbrev pub repack_items : Site → History → ℕ → List Job
 repack_items site h v = map (λ (x : ℕ × Job). x.1) (sort_copies (live_copies_on site h v))
 
+-- a tape is reclaimed where it is neither mounted nor BROKEN, and no live file has a place on it
 abbrev pub reclaim_answer : Site → History → ℕ → Answer
 reclaim_answer site h v = on_free_tape site h v (refuse refusal.LiveFiles (not (is_empty (live_copies_on site h v))) answer.Done)
 
+-- a REPACKING tape of the site is repacked where no repack of it is live, and the answer names the items
 abbrev pub repack_answer : Site → History → ℕ → Answer
 repack_answer site h v =
     refuse refusal.NoTape (nat_le (length site.tapes.items) v)
@@ -207,6 +224,7 @@ abbrev pub retried_copies : Site → History → ℕ → ℕ → List Job
 retried_copies site h f zero = []
 retried_copies site h f (suc c) = retried_copies site h f c ++ (if is_failed site h f (suc c) then archive_job (next_number h) f (suc c) ∷ [] else [])
 
+-- the jobs that a Retry bears for what a path names, none where it names no file
 abbrev pub retried_file : Site → History → Option ℕ → List Job
 retried_file site h None = []
 retried_file site h (Some f) = retried_copies site h f (copies_of_file site h f)
@@ -216,6 +234,7 @@ abbrev pub retried_jobs : Site → History → List (List ℕ) → List (List �
 retried_jobs site h seen [] = []
 retried_jobs site h seen (p ∷ ps) = if has_text p seen then retried_jobs site h seen ps else retried_file site h (live_file h p) ++ retried_jobs site h (p ∷ seen) ps
 
+-- a Retry is refused where one of its paths names no file, and is otherwise told the jobs that it bears
 abbrev pub retry_answer : Site → History → List (List ℕ) → Answer
 retry_answer site h paths = refuse refusal.NoFile (list_any (λ p. is_none (live_file h p)) paths) (answer.Retried (rows (retried_jobs site h [] paths)))
 
@@ -263,6 +282,7 @@ may_be_refused_for_weight _ = true
 abbrev pub is_too_heavy : Site → History → Ask → Answer → Bool
 is_too_heavy site h k a = may_be_refused_for_weight k && (is_accepted a && nat_lt site.limits.history (weight_of h + weight_of_entry k a))
 
+-- the answer, or the refusal HistoryFull where the history with the new entry would weigh more than the limit
 abbrev pub weighed : Site → History → Ask → Answer → Answer
 weighed site h k a = refuse refusal.HistoryFull (is_too_heavy site h k a) a
 
@@ -272,6 +292,7 @@ answer_of site h t k = weighed site h k (light_answer site h (moment_of h t) k)
 
 -- ---- looks
 
+-- what is told of a path: the locality of the file that it names, and an error where it names none
 abbrev pub place_info : Site → History → List ℕ → Option ℕ → PlaceInfo
 place_info site h path None = record { path = path; locality = None; error = Some (codes "no such file") }
 place_info site h path (Some f) = record { path = path; locality = Some (locality_of site h f); error = None }
@@ -280,6 +301,7 @@ place_info site h path (Some f) = record { path = path; locality = Some (localit
 abbrev pub place_infos : Site → History → List (List ℕ) → List PlaceInfo
 place_infos site h paths = map (λ path. place_info site h path (live_file h path)) paths
 
+-- a Fetch is told the length and SHA-256 of its file where the file is resident, and is refused otherwise
 abbrev pub fetch_by : History → Option ℕ → Answer
 fetch_by h None = answer.Refused refusal.NoFile
 fetch_by h (Some f) = refuse refusal.NotResident (not (is_resident h f)) (answer.Bytes (sum_of h f))
@@ -307,5 +329,6 @@ is_built_look _ = false
 abbrev pub served_answer : Site → History → ℕ → Ask → Answer
 served_answer site h t k = refuse refusal.NotBuilt (not (is_built k)) (answer_of site h t k)
 
+-- the same for a look: its answer where the look is built, and otherwise the refusal NotBuilt, before every other
 abbrev pub served_look : Site → History → ℕ → Look → Answer
 served_look site h t k = refuse refusal.NotBuilt (not (is_built_look k)) (look_answer_of site h t k)

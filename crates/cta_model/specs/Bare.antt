@@ -14,6 +14,7 @@ use Rattle.cta_model.specs.declared.reports.FailedCopy.{FailedCopy}
 abbrev pub bare_rows : {T : Type 0} → Listed T → Listed T
 bare_rows r = rows r.items
 
+-- an ask with no room to spare in its lists
 abbrev pub bare_ask : Ask → Ask
 bare_ask (ask.Stage who files) = ask.Stage who (bare_rows files)
 bare_ask (ask.Cancel who id paths) = ask.Cancel who id (bare_rows paths)
@@ -23,13 +24,16 @@ bare_ask (ask.Failed m fault charged returned) = ask.Failed m fault (bare_rows c
 bare_ask (ask.Retry who paths) = ask.Retry who (bare_rows paths)
 bare_ask k = k
 
+-- a look with no room to spare in its lists
 abbrev pub bare_look : Look → Look
 bare_look (look.ArchiveInfo paths) = look.ArchiveInfo (bare_rows paths)
 bare_look k = k
 
+-- what is told of a failed copy, with no room to spare in its list of errors
 abbrev pub bare_copy : FailedCopy → FailedCopy
 bare_copy f = record f { errors = bare_rows f.errors }
 
+-- an answer with no room to spare in its lists
 abbrev pub bare_answer : Answer → Answer
 bare_answer (answer.Stored evicted) = answer.Stored (bare_rows evicted)
 bare_answer (answer.Batch items evicted) = answer.Batch (bare_rows items) (bare_rows evicted)
@@ -43,5 +47,6 @@ bare_answer (answer.FailedSeen copies) = answer.FailedSeen (rows (map bare_copy 
 bare_answer (answer.QueuesSeen infos) = answer.QueuesSeen (bare_rows infos)
 bare_answer a = a
 
+-- an entry with no room to spare in the lists of its ask and its answer
 abbrev pub bare_entry : Entry → Entry
 bare_entry e = record e { ask = bare_ask e.ask; answer = bare_answer e.answer }

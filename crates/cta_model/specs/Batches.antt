@@ -25,6 +25,7 @@ abbrev pub written_items : History → ℕ → List Job → List Item
 written_items h s [] = []
 written_items h s (j ∷ js) = record { job = j; fseq = s; sum = sum_of h j.file } ∷ written_items h (s + 1) js
 
+-- the fSeq of a place, 0 where there is no place
 abbrev pub fseq_by : Option Place → ℕ
 fseq_by None = 0
 fseq_by (Some p) = p.fseq
@@ -33,6 +34,7 @@ fseq_by (Some p) = p.fseq
 abbrev pub fseq_on : Site → History → ℕ → ℕ → ℕ
 fseq_on site h v f = fseq_by (find (λ (p : Place). p.tape == v) (sources_of site h f))
 
+-- items by fSeq with one more among them, before the first that has a higher fSeq
 abbrev pub insert_by_fseq : Item → List Item → List Item
 insert_by_fseq i [] = i ∷ []
 insert_by_fseq i (k ∷ ks) = if nat_lt i.fseq k.fseq then i ∷ k ∷ ks else k ∷ insert_by_fseq i ks
@@ -42,6 +44,7 @@ abbrev pub read_items : Site → History → ℕ → List Job → List Item
 read_items site h v [] = []
 read_items site h v (j ∷ js) = insert_by_fseq (record { job = j; fseq = fseq_on site h v j.file; sum = sum_of h j.file }) (read_items site h v js)
 
+-- the items that a Claim takes at t for a tape: of its queue, what fits on the tape to be written, or in the buffer to be read
 abbrev pub batch_by : Site → History → ℕ → Direction → ℕ → List Item
 batch_by site h t direction.Archive v =
     written_items h (next_fseq h v) (taken_of h site.limits.batch_files (capacity_of site v - used_bytes h v) (queue_of site h direction.Archive (pool_of_tape site v)))

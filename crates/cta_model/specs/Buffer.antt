@@ -20,6 +20,7 @@ lists_evicted (answer.Stored evicted) f = has_number f evicted.items
 lists_evicted (answer.Batch items evicted) f = has_number f evicted.items
 lists_evicted _ f = false
 
+-- the last arrival after the entry of this number: this entry where it brings the file in, none where it evicts it, else as it was
 abbrev pub arrival_after : Bool → Bool → ℕ → Option ℕ → Option ℕ
 arrival_after true out n before = Some n
 arrival_after false true n before = None

@@ -8,6 +8,7 @@ use Rattle.cta_model.specs.declared.states.Charge.{Charge}
 use Rattle.cta_model.specs.History.{History}
 use Rattle.cta_model.specs.Mounts.{has_job, asked_mount, drive_of_mount, tape_of_mount}
 
+-- the charges of a job after an ask: one more, with this drive and tape, where the ask is a Failed that charges the job
 abbrev pub charges_after : Ask → Job → ℕ → ℕ → List Charge → List Charge
 charges_after (ask.Failed m fault charged returned) j d v before = if has_job j charged.items then before ++ record { drive = d; tape = v; fault = fault } ∷ [] else before
 charges_after _ j d v before = before

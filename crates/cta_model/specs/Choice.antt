@@ -28,10 +28,12 @@ key_of_mount site direction.Retrieve v = v
 abbrev pub mounts_of_key : Site → History → Direction → ℕ → ℕ
 mounts_of_key site h way key = length (open_where (λ (m : Mount). same_direction m.direction way && key_of_mount site way m.tape == key) h)
 
+-- how many bytes of a queue warrant one mount, in a direction
 abbrev pub bytes_threshold : Site → Direction → ℕ
 bytes_threshold site direction.Archive = site.limits.archive_bytes
 bytes_threshold site direction.Retrieve = site.limits.retrieve_bytes
 
+-- how many files of a queue warrant one mount, in a direction
 abbrev pub files_threshold : Site → Direction → ℕ
 files_threshold site direction.Archive = site.limits.archive_files
 files_threshold site direction.Retrieve = site.limits.retrieve_files
@@ -59,6 +61,7 @@ vo_of_key site direction.Retrieve key = vo_of_pool site (pool_of_tape site key)
 abbrev pub mounts_of_vo : Site → History → Direction → ℕ → ℕ
 mounts_of_vo site h way vo = length (open_where (λ (m : Mount). same_direction m.direction way && vo_of_pool site (pool_of_tape site m.tape) == vo) h)
 
+-- how many drives a VO may use in a direction at the same time, 0 where there is no VO
 abbrev pub quota_in : Direction → Option Vo → ℕ
 quota_in way None = 0
 quota_in direction.Archive (Some v) = v.write_drives
@@ -86,6 +89,7 @@ abbrev pub may_read_from : Site → History → ℕ → ℕ → List Job → ℕ
 may_read_from site h t d q v =
     may_be_read (tape_state site h v) && (is_in_reach site d v && (not (is_mounted h v) && some_job_fits h q (free_space site h + evictable_size site h t)))
 
+-- the numbers of the site's tapes, from 0
 abbrev pub all_tapes : Site → List ℕ
 all_tapes site = range_with_len 0 (length site.tapes.items)
 
@@ -107,6 +111,7 @@ fits_drive site h t d way key =
 
 -- ---- the choice
 
+-- the candidate of a queue and the tape for it, none where the queue is empty or there is no tape
 abbrev pub candidate_by : Site → History → Direction → ℕ → List Job → Option ℕ → List Candidate
 candidate_by site h way key [] v = []
 candidate_by site h way key (j ∷ q) None = []
@@ -119,6 +124,7 @@ candidate_of site h t d way key =
     then (let q = queue_of site h way key in candidate_by site h way key q (tape_for site h t d way key q))
     else []
 
+-- the candidates of these keys in a direction, in the order of the keys
 abbrev pub candidates_by : Site → History → ℕ → ℕ → Direction → List ℕ → List Candidate
 candidates_by site h t d way [] = []
 candidates_by site h t d way (key ∷ keys) = candidate_of site h t d way key ++ candidates_by site h t d way keys
@@ -129,6 +135,7 @@ candidates site h t d =
     candidates_by site h t d direction.Archive (range_with_len 0 (length site.pools.items))
     ++ candidates_by site h t d direction.Retrieve (range_with_len 0 (length site.tapes.items))
 
+-- archive comes before retrieve, and no direction before itself
 abbrev pub goes_first : Direction → Direction → Bool
 goes_first direction.Archive direction.Retrieve = true
 goes_first _ _ = false
@@ -142,6 +149,7 @@ goes_before a b =
     || (same_direction a.direction b.direction && (nat_lt a.birth b.birth
     || (a.birth == b.birth && nat_lt a.key b.key)))))
 
+-- of a candidate and perhaps another, the one that goes before the other
 abbrev pub better_of : Candidate → Option Candidate → Option Candidate
 better_of a None = Some a
 better_of a (Some b) = if goes_before b a then Some b else Some a

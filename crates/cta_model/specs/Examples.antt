@@ -16,12 +16,15 @@ use Rattle.cta_model.specs.Kept.{history_of}
 
 -- ---- sites
 
+-- limits with a buffer of 1,000 bytes, a mount warranted by one file or 100 bytes, and 3 tries of a job
 abbrev pub small_limits : Limits
 small_limits = record { buffer = 1000; file = 1000; archive_bytes = 100; retrieve_bytes = 100; archive_files = 1; retrieve_files = 1; batch_files = 10; tries = 3; history = 1000; lifetime = 60 }
 
+-- a pool of this name, of the VO atlas
 abbrev pub pool : List ℕ → TapePool
 pool name = record { name = name; vo = codes "atlas" }
 
+-- an ACTIVE tape of this VID and pool, of 1,000 bytes, in the library L1
 abbrev pub tape : List ℕ → List ℕ → Tape
 tape vid pool = record { vid = vid; pool = pool; library = codes "L1"; capacity = 1000; state = state.Active }
 
@@ -66,6 +69,7 @@ two_tape_site = record one_copy_site { tapes = rows (tape (codes "V1") (codes "p
 
 -- ---- asks, each with its moment
 
+-- a caller with no name and no group
 abbrev pub somebody : Who
 somebody = record { requester = []; group = [] }
 
@@ -73,12 +77,15 @@ somebody = record { requester = []; group = [] }
 abbrev pub sum_of_size : ℕ → Sum256
 sum_of_size n = record { len = n; digest = [] }
 
+-- a Put of a file of so many bytes at a path, at the moment 100
 abbrev pub put_of : List ℕ → ℕ → ℕ × Ask
 put_of path size = (100, ask.Put somebody path (sum_of_size size))
 
+-- a Put of the file /atlas/a of 5 bytes
 abbrev pub put_a : ℕ × Ask
 put_a = put_of (codes "/atlas/a") 5
 
+-- a Put of the file /atlas/b of 8 bytes
 abbrev pub put_b : ℕ × Ask
 put_b = put_of (codes "/atlas/b") 8
 

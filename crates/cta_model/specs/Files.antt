@@ -19,10 +19,12 @@ abbrev pub live_file : History → List ℕ → Option ℕ
 live_file [] path = None
 live_file (e ∷ h) path = live_after e.ask (next_number h) path (live_file h path)
 
+-- the path of a Put, empty for any other ask
 abbrev pub path_in : Ask → List ℕ
 path_in (ask.Put who path sum) = path
 path_in _ = []
 
+-- the path in the Put of an entry, empty where there is no entry or it has another ask
 abbrev pub entry_path : Option Entry → List ℕ
 entry_path None = []
 entry_path (Some e) = path_in e.ask
@@ -31,10 +33,12 @@ entry_path (Some e) = path_in e.ask
 abbrev pub path_of : History → ℕ → List ℕ
 path_of h f = entry_path (entry_of h f)
 
+-- the length and SHA-256 of a Put, 0 and empty for any other ask
 abbrev pub sum_in : Ask → Sum256
 sum_in (ask.Put who path sum) = sum
 sum_in _ = record { len = 0; digest = [] }
 
+-- the length and SHA-256 in the Put of an entry, 0 and empty where there is no entry or it has another ask
 abbrev pub entry_sum : Option Entry → Sum256
 entry_sum None = record { len = 0; digest = [] }
 entry_sum (Some e) = sum_in e.ask

@@ -22,6 +22,7 @@ use Rattle.cta_model.specs.Recalls.{Recall, live_recall, waits_for}
 
 -- ---- archive jobs
 
+-- the job of this birth for a copy of a file, an archive job where the copy is not 0
 abbrev pub archive_job : ℕ → ℕ → ℕ → Job
 archive_job birth f c = record { birth = birth; file = f; copy = c }
 
@@ -29,6 +30,7 @@ archive_job birth f c = record { birth = birth; file = f; copy = c }
 abbrev pub has_copy : ℕ → ℕ → List Job → Bool
 has_copy f c jobs = list_any (λ (j : Job). j.file == f && j.copy == c) jobs
 
+-- the items of the repack that an entry makes, none where there is no entry or it makes no repack
 abbrev pub items_in : Option Entry → List Job
 items_in None = []
 items_in (Some e) = repacked e.answer
@@ -37,6 +39,7 @@ items_in (Some e) = repacked e.answer
     repacked (answer.Repacking id items) = items.items
     repacked _ = []
 
+-- the entries that wait for a recall, none where there is no recall
 abbrev pub waiting_for : Option Recall → List ℕ
 waiting_for None = []
 waiting_for (Some r) = r.waiting
@@ -61,6 +64,7 @@ ends_archive site h (ask.Failed m fault charged returned) a j = is_last_charge s
 ends_archive site h (ask.Delete who path) a j = bytes_eq path (path_of h j.file)
 ends_archive site h _ a j = false
 
+-- the birth of a copy's live archive job after the entry e: where none was live, e may bear one; where one was, e may end it
 abbrev pub archive_after : Site → History → Entry → ℕ → ℕ → Option ℕ → Option ℕ
 archive_after site h e f c None = if bears_archive site h e.ask e.answer f c then Some (next_number h) else None
 archive_after site h e f c (Some birth) = if ends_archive site h e.ask e.answer (archive_job birth f c) then None else Some birth
@@ -81,6 +85,7 @@ live_birth site h f (suc c) = archive_birth site h f (suc c)
 abbrev pub is_live_job : Site → History → Job → Bool
 is_live_job site h j = is_number j.birth (live_birth site h j.file j.copy)
 
+-- the live job of a copy of a file where it has this birth, and none otherwise; copy 0 is the recall
 abbrev pub born_copy : Site → History → ℕ → ℕ → ℕ → List Job
 born_copy site h birth f c = if is_number birth (live_birth site h f c) then archive_job birth f c ∷ [] else []
 
@@ -125,6 +130,7 @@ abbrev pub subscribers_of : Site → History → Job → List ℕ
 subscribers_of site [] j = []
 subscribers_of site (e ∷ h) j = if subscribes site h e.ask j then next_number h ∷ subscribers_of site h j else subscribers_of site h j
 
+-- the end of a job after the entry of this number: the earlier end, else this entry where the job was live before it and is not after it
 abbrev pub end_after : Bool → Bool → ℕ → Option ℕ → Option ℕ
 end_after was is n (Some m) = Some m
 end_after true false n None = Some n

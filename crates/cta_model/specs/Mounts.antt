@@ -17,10 +17,12 @@ use Rattle.cta_model.specs.History.{History, next_number, entry_of, has_number}
 
 -- ---- mounts
 
+-- the mount that an ask and its answer make: only a Next that is answered Mounted makes one
 abbrev pub mount_in : Ask → Answer → Option Mount
 mount_in (ask.Next d) (answer.Mounted m way v) = Some (record { drive = d; direction = way; tape = v })
 mount_in _ _ = None
 
+-- the mount that an entry makes, none where there is no entry or it makes no mount
 abbrev pub mount_by : Option Entry → Option Mount
 mount_by None = None
 mount_by (Some e) = mount_in e.ask e.answer
@@ -29,6 +31,7 @@ mount_by (Some e) = mount_in e.ask e.answer
 abbrev pub mount_of : History → ℕ → Option Mount
 mount_of h m = mount_by (entry_of h m)
 
+-- the open mounts after the entry of this number: one more after a Next that mounts, and one less after its End
 abbrev pub open_after : Ask → Answer → ℕ → List ℕ → List ℕ
 open_after (ask.Next d) (answer.Mounted m way v) n before = n ∷ before
 open_after (ask.End m fault) a n before = filter (λ k. not (k == m)) before
@@ -52,10 +55,12 @@ asked_mount (ask.Failed m fault charged returned) = m
 asked_mount (ask.End m fault) = m
 asked_mount _ = 0
 
+-- the tape of a mount, 0 where there is no mount
 abbrev pub tape_by : Option Mount → ℕ
 tape_by None = 0
 tape_by (Some m) = m.tape
 
+-- the drive of a mount, 0 where there is no mount
 abbrev pub drive_by : Option Mount → ℕ
 drive_by None = 0
 drive_by (Some m) = m.drive
@@ -68,12 +73,14 @@ tape_of_mount h m = tape_by (mount_of h m)
 abbrev pub drive_of_mount : History → ℕ → ℕ
 drive_of_mount h m = drive_by (mount_of h m)
 
+-- whether both are archive, or both are retrieve
 abbrev pub same_direction : Direction → Direction → Bool
 same_direction direction.Archive direction.Archive = true
 same_direction direction.Retrieve direction.Retrieve = true
 same_direction direction.Archive direction.Retrieve = false
 same_direction direction.Retrieve direction.Archive = false
 
+-- whether there is a mount and it passes the test
 abbrev pub is_mount : (Mount → Bool) → Option Mount → Bool
 is_mount test None = false
 is_mount test (Some m) = test m
@@ -92,11 +99,13 @@ is_busy h d = list_any (λ m. is_mount (λ (x : Mount). x.drive == d) (mount_of 
 
 -- ---- drives
 
+-- whether a mount that ends so puts its drive down: only a load or unload fault does
 abbrev pub puts_down : Option Fault → Bool
 puts_down (Some fault.Load) = true
 puts_down (Some fault.Unload) = true
 puts_down _ = false
 
+-- whether a drive is down after an ask: only a DriveUp or DriveDown of it, or an End of its mount, may change that
 abbrev pub down_after : Ask → ℕ → ℕ → Bool → Bool
 down_after (ask.DriveUp who k) d of_mount before = if k == d then false else before
 down_after (ask.DriveDown who k) d of_mount before = if k == d then true else before
@@ -110,6 +119,7 @@ is_down (e ∷ h) d = down_after e.ask d (drive_of_mount h (asked_mount e.ask)) 
 
 -- ---- claims
 
+-- two jobs are the same where their births, files and copies are
 abbrev pub same_job : Job → Job → Bool
 same_job a b = (a.birth == b.birth) && ((a.file == b.file) && (a.copy == b.copy))
 
@@ -121,9 +131,11 @@ has_job j jobs = list_any (same_job j) jobs
 abbrev pub item_jobs : List Item → List Job
 item_jobs items = map (λ (i : Item). i.job) items
 
+-- the items whose jobs are not among these
 abbrev pub without_jobs : List Job → List Item → List Item
 without_jobs jobs items = filter (λ (i : Item). not (has_job i.job jobs)) items
 
+-- the items that a mount claims after an ask: its Claim adds a batch, and its Flushed, Recalled or Failed ends the claims that it names
 abbrev pub claimed_after : Ask → Answer → ℕ → List Item → List Item
 claimed_after (ask.Claim k) (answer.Batch items evicted) m before = if k == m then before ++ items.items else before
 claimed_after (ask.Flushed k items) a m before = if k == m then without_jobs (item_jobs items.items) before else before
@@ -140,10 +152,12 @@ claimed_items (e ∷ h) m = claimed_after e.ask e.answer m (claimed_items h m)
 abbrev pub claimer_of : History → Job → Option ℕ
 claimer_of h j = find (λ m. has_job j (item_jobs (claimed_items h m))) (open_mounts h)
 
+-- the items of a mount's Claim that is answered with a batch, none for any other ask
 abbrev pub batch_in : Ask → Answer → ℕ → Option (List Item)
 batch_in (ask.Claim k) (answer.Batch items evicted) m = if k == m then Some items.items else None
 batch_in _ _ m = None
 
+-- the later batch, or the earlier one where there is no later
 abbrev pub batch_or : Option (List Item) → Option (List Item) → Option (List Item)
 batch_or (Some items) before = Some items
 batch_or None before = before

@@ -15,6 +15,7 @@ use Rattle.cta_model.specs.Files.{is_live, copies_of_file}
 use Rattle.cta_model.specs.Mounts.{asked_mount, tape_of_mount}
 use Rattle.cta_model.specs.Tapes.{tape_state, is_broken}
 
+-- whether a fate is Done: its job had not ended
 abbrev pub is_done : Fate → Bool
 is_done fate.Done = true
 is_done fate.Stale = false
@@ -33,6 +34,7 @@ abbrev pub fseq_after : List (Item × Fate) → ℕ → ℕ → Option ℕ → O
 fseq_after [] f c before = before
 fseq_after (x ∷ xs) f c before = fseq_after xs f c (if is_copy_of f c x then Some x.0.fseq else before)
 
+-- the place of a copy after a flush to a tape: that tape and its fSeq there, or as before where it got no fSeq
 abbrev pub place_after : ℕ → ℕ → Option ℕ → Option Place → Option Place
 place_after c v None before = before
 place_after c v (Some s) before = Some (record { copy = c; tape = v; fseq = s })
@@ -67,6 +69,7 @@ places_of site h f = filter (λ (p : Place). not (is_broken (tape_state site h p
 abbrev pub has_place_on : ℕ → List Place → Bool
 has_place_on v places = list_any (λ (p : Place). p.tape == v) places
 
+-- whether each copy of the file from 1 to n was flushed
 abbrev pub copies_flushed : History → ℕ → ℕ → Bool
 copies_flushed h f zero = true
 copies_flushed h f (suc n) = copies_flushed h f n && was_flushed h f (suc n)

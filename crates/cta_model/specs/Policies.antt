@@ -22,6 +22,7 @@ policy_of_birth site a (ask.Retry who paths) = policy_number site site.default_p
 policy_of_birth site (actor.Caller who) _ = policy_of_caller site who.requester who.group
 policy_of_birth site (actor.Drive d) _ = policy_number site site.default_policy
 
+-- the policy of jobs that an entry bears, none where there is no entry or no such policy
 abbrev pub policy_by : Site → Option Entry → Option Policy
 policy_by site None = None
 policy_by site (Some e) = slice_get site.policies.items (policy_of_birth site e.actor e.ask)

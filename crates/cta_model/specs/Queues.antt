@@ -18,6 +18,7 @@ use Rattle.cta_model.specs.Policies.{policy_of, priority_in, age_in}
 
 -- ---- keys
 
+-- the first list, or the second where the first is empty
 abbrev pub or_else : {A : Type 0} → List A → List A → List A
 or_else [] ys = ys
 or_else (x ∷ xs) ys = x ∷ xs
@@ -34,6 +35,7 @@ tape_of_recall site h j = option_map (λ (p : Place). p.tape) (slice_get (source
 abbrev pub pool_of_job : Site → History → Job → Option ℕ
 pool_of_job site h j = option_map (λ class. pool_of site class j.copy) (class_of site (path_of h j.file))
 
+-- the key of a job of this copy: the tape of the recall for copy 0, and the pool for any other
 abbrev pub key_by : ℕ → Site → History → Job → Option ℕ
 key_by zero site h j = tape_of_recall site h j
 key_by (suc c) site h j = pool_of_job site h j
@@ -42,6 +44,7 @@ key_by (suc c) site h j = pool_of_job site h j
 abbrev pub key_of : Site → History → Job → Option ℕ
 key_of site h j = key_by j.copy site h j
 
+-- the direction of a job of this copy: retrieve for copy 0, and archive for any other
 abbrev pub way_by : ℕ → Direction
 way_by zero = direction.Retrieve
 way_by (suc c) = direction.Archive
@@ -64,10 +67,12 @@ queue_of site h way key = filter (stands_in site h way key) (live_jobs site h)
 abbrev pub queue_bytes : History → List Job → ℕ
 queue_bytes h q = sum_by (λ (j : Job). size_of h j.file) q
 
+-- the highest of the numbers, 0 where there are none
 abbrev pub highest : List ℕ → ℕ
 highest [] = 0
 highest (n ∷ ns) = max n (highest ns)
 
+-- the least of the numbers, 0 where there are none
 abbrev pub least : List ℕ → ℕ
 least [] = 0
 least (n ∷ []) = n
@@ -81,6 +86,7 @@ queue_priority site h way q = highest (map (λ j. priority_in way (policy_of sit
 abbrev pub queue_age : Site → History → Direction → List Job → ℕ
 queue_age site h way q = least (map (λ j. age_in way (policy_of site h j)) q)
 
+-- the moment of an entry, 0 where there is no entry
 abbrev pub moment_by : Option Entry → ℕ
 moment_by None = 0
 moment_by (Some e) = e.at

@@ -26,6 +26,7 @@ pub record Recall : Type 0 where
 abbrev pub recall_job : ℕ → ℕ → Job
 recall_job birth f = record { birth = birth; file = f; copy = 0 }
 
+-- whether the list has no element
 abbrev pub is_empty : {A : Type 0} → List A → Bool
 is_empty [] = true
 is_empty (x ∷ xs) = false
@@ -44,10 +45,12 @@ waits_for site h _ f = false
 abbrev pub bears_recall : Site → History → Ask → ℕ → Bool
 bears_recall site h k f = waits_for site h k f && (not (is_resident h f) && not (is_empty (places_of site h f)))
 
+-- a live recall after the entry of this number, which comes last of those that wait for it where it waits
 abbrev pub subscribed : Bool → ℕ → Recall → Recall
 subscribed true n r = record r { waiting = r.waiting ++ n ∷ [] }
 subscribed false n r = r
 
+-- the recall of this birth with the entries that still wait for it, none where no entry waits
 abbrev pub left_with : ℕ → List ℕ → Option Recall
 left_with birth [] = None
 left_with birth (s ∷ ss) = Some (record { birth = birth; waiting = s ∷ ss })
@@ -56,6 +59,7 @@ left_with birth (s ∷ ss) = Some (record { birth = birth; waiting = s ∷ ss })
 abbrev pub unsubscribed : ℕ → Recall → Option Recall
 unsubscribed id r = left_with r.birth (filter (λ s. not (s == id)) r.waiting)
 
+-- the same recall, none where it is ended
 abbrev pub lives_unless : Bool → Recall → Option Recall
 lives_unless true r = None
 lives_unless false r = Some r
@@ -72,6 +76,7 @@ recall_goes_on site h e f r (ask.Delete who path) a = lives_unless (bytes_eq pat
 recall_goes_on site h e f r (ask.TapeState who v s) a = lives_unless (is_empty (places_of site (e ∷ h) f)) r
 recall_goes_on site h e f r _ a = Some r
 
+-- the live recall of a file after the entry e: where none was live, e may bear one; where one was, it goes on or ends
 abbrev pub recall_after : Site → History → Entry → ℕ → Option Recall → Option Recall
 recall_after site h e f None = if bears_recall site h e.ask f then Some (record { birth = next_number h; waiting = next_number h ∷ [] }) else None
 recall_after site h e f (Some r) = recall_goes_on site h e f r e.ask e.answer

@@ -27,6 +27,7 @@ after_writing false (ask.Flushed m items) = item.Done
 after_writing false (ask.Delete who path) = item.Gone
 after_writing false _ = item.Failed
 
+-- the state of an item after the newest entry of h, whose ask is k: DONE, FAILED and GONE stay as they are
 abbrev pub item_after : Site → History → Ask → ℕ → ℕ → ItemState → ItemState
 item_after site h k f c item.Reading = after_reading (is_some (live_birth site h f 0)) k
 item_after site h k f c item.Writing = after_writing (is_some (live_birth site h f c)) k
@@ -52,13 +53,16 @@ abbrev pub repack_items_in : Ask → Answer → List Job
 repack_items_in (ask.Repack who v) (answer.Repacking id items) = items.items
 repack_items_in _ _ = []
 
+-- whether an ask is a Repack of this tape
 abbrev pub repacks_tape : ℕ → Ask → Bool
 repacks_tape v (ask.Repack who k) = k == v
 repacks_tape v _ = false
 
+-- whether one of the jobs that pass the test is a live item of this repack
 abbrev pub has_live_item : Site → History → ℕ → (Job → Bool) → List Job → Bool
 has_live_item site h id test jobs = list_any (λ (j : Job). test j && is_live_item (item_state site h id j.file j.copy)) jobs
 
+-- whether a repack of the tape made by one of the older entries is live, where h is the whole history
 abbrev pub repack_live_in : Site → History → ℕ → History → Bool
 repack_live_in site h v [] = false
 repack_live_in site h v (e ∷ older) = (repacks_tape v e.ask && has_live_item site h (next_number older) (λ j. true) (repack_items_in e.ask e.answer)) || repack_live_in site h v older

@@ -51,6 +51,7 @@ free_space site h = site.limits.buffer - (size_of_files h (resident_files h) + b
 abbrev pub is_pinned : Site → History → ℕ → ℕ → Bool
 is_pinned site h t f = stage_pins site h t f h || repack_pins site h f h
 
+-- whether some copy of the file from 1 to n has a live archive job
 abbrev pub has_archive_job : Site → History → ℕ → ℕ → Bool
 has_archive_job site h f zero = false
 has_archive_job site h f (suc c) = has_archive_job site h f c || is_some (archive_birth site h f (suc c))

@@ -37,14 +37,17 @@ abbrev pub kept_files : Ask → List Wanted
 kept_files (ask.Stage who files) = first_named [] files.items
 kept_files _ = []
 
+-- the files of the request that an ask makes; only a Stage makes one
 abbrev pub request_in : Ask → Option (List Wanted)
 request_in (ask.Stage who files) = Some (first_named [] files.items)
 request_in _ = None
 
+-- the files of the request that an entry makes, none where there is no entry or it makes no request
 abbrev pub request_by : Option Entry → Option (List Wanted)
 request_by None = None
 request_by (Some e) = request_in e.ask
 
+-- whether an ask is the DropStage of this request
 abbrev pub drops : ℕ → Ask → Bool
 drops id (ask.DropStage who k) = k == id
 drops id _ = false
@@ -59,10 +62,12 @@ request_of h id = if is_dropped h id then None else request_by (entry_of h id)
 
 -- ---- texts of errors
 
+-- the name of a drive, empty where there is no drive
 abbrev pub drive_name : Option Drive → List ℕ
 drive_name None = []
 drive_name (Some d) = d.name
 
+-- the VID of a tape, empty where there is no tape
 abbrev pub tape_name : Option Tape → List ℕ
 tape_name None = []
 tape_name (Some t) = t.vid
@@ -96,6 +101,7 @@ recall_error site h j = joined_texts (map (charge_text site) (charges_of h j))
 abbrev pub ended_at_once : FileState → Option ℕ → ℕ → Option (List ℕ) → Option ℕ → StageFile
 ended_at_once state started at error f = record { file = f; birth = 0; state = state; started = started; finished = Some at; error = error; released = false }
 
+-- whether an ask is a Claim whose batch names the job
 abbrev pub claim_names : Ask → Answer → Job → Bool
 claim_names (ask.Claim m) (answer.Batch items evicted) j = has_job j (item_jobs items.items)
 claim_names _ _ j = false
@@ -109,6 +115,7 @@ abbrev pub waiting : Bool → ℕ → ℕ → ℕ → StageFile
 waiting true f birth at = record { file = Some f; birth = birth; state = file.Started; started = Some at; finished = None; error = None; released = false }
 waiting false f birth at = record { file = Some f; birth = birth; state = file.Submitted; started = None; finished = None; error = None; released = false }
 
+-- the birth of a recall, 0 where there is no recall
 abbrev pub birth_or_none : Option Recall → ℕ
 birth_or_none None = 0
 birth_or_none (Some r) = r.birth
@@ -127,6 +134,7 @@ path_at_stage site h e (Some f) = file_at_stage site h e f
 
 -- ---- a file after one more entry
 
+-- a file of a request that ends at this moment, in this state, and with this error where there is one
 abbrev pub finished : StageFile → FileState → ℕ → Option (List ℕ) → StageFile
 finished s state at error = record s { state = state; finished = Some at; error = error }
 
@@ -149,10 +157,12 @@ releases (ask.Release who k paths) id path = k == id && has_text path paths.item
 releases (ask.DropStage who k) id path = k == id
 releases _ id path = false
 
+-- the moment when a file was first STARTED: the one that it has, or else this one
 abbrev pub first_start : Option ℕ → ℕ → Option ℕ
 first_start None at = Some at
 first_start (Some start) at = Some start
 
+-- whether there is a recall and it has this birth
 abbrev pub is_born_by : ℕ → Option Recall → Bool
 is_born_by birth None = false
 is_born_by birth (Some r) = r.birth == birth
@@ -165,6 +175,7 @@ waiting_after site h e id path f s =
     else if claim_names e.ask e.answer (recall_job s.birth f) then record s { state = file.Started; started = first_start s.started e.at }
     else s
 
+-- a file of a request that waits, after the entry e; where its path named no file, it stays as it was
 abbrev pub waits_after : Site → History → Entry → ℕ → List ℕ → Option ℕ → StageFile → StageFile
 waits_after site h e id path None s = s
 waits_after site h e id path (Some f) s = waiting_after site h e id path f s
@@ -175,6 +186,7 @@ file_after site h e id path s file.Submitted = waits_after site h e id path s.fi
 file_after site h e id path s file.Started = waits_after site h e id path s.file s
 file_after site h e id path s _ = s
 
+-- a file of a request, released where the test holds, and otherwise as it was
 abbrev pub released_if : Bool → StageFile → StageFile
 released_if true s = record s { released = true }
 released_if false s = s
@@ -192,6 +204,7 @@ stage_file site (e ∷ h) id path =
 
 -- ---- pins
 
+-- whether a file of a request is COMPLETED
 abbrev pub is_completed : FileState → Bool
 is_completed file.Completed = true
 is_completed _ = false

@@ -14,6 +14,7 @@ use Rattle.cta_model.specs.Mounts.{open_where, asked_mount, tape_of_mount, claim
 
 -- ---- states
 
+-- the state of a tape after an ask: what a TapeState of this tape says, else as before
 abbrev pub state_after : Ask → ℕ → TapeState → TapeState
 state_after (ask.TapeState who k s) v before = if k == v then s else before
 state_after _ v before = before
@@ -23,10 +24,12 @@ abbrev pub tape_state : Site → History → ℕ → TapeState
 tape_state site [] v = first_state site v
 tape_state site (e ∷ h) v = state_after e.ask v (tape_state site h v)
 
+-- whether the state is BROKEN; a file has no place on such a tape
 abbrev pub is_broken : TapeState → Bool
 is_broken state.Broken = true
 is_broken _ = false
 
+-- whether the state is DISABLED; such a tape keeps its places, and may not be read
 abbrev pub is_disabled : TapeState → Bool
 is_disabled state.Disabled = true
 is_disabled _ = false
@@ -49,6 +52,7 @@ may_be_repacked _ = false
 
 -- ---- items
 
+-- the items of a tape after an ask: a Flushed of its mount adds items, and a Reclaim of it leaves none
 abbrev pub items_after : Ask → ℕ → ℕ → List Item → List Item
 items_after (ask.Flushed m items) v of_mount before = if of_mount == v then before ++ items.items else before
 items_after (ask.Reclaim who k) v of_mount before = if k == v then [] else before
@@ -63,6 +67,7 @@ tape_items (e ∷ h) v = items_after e.ask v (tape_of_mount h (asked_mount e.ask
 abbrev pub next_fseq : History → ℕ → ℕ
 next_fseq h v = length (tape_items h v) + 1
 
+-- the size of items, in bytes
 abbrev pub size_of_items : List Item → ℕ
 size_of_items items = sum_by (λ (i : Item). i.sum.len) items
 
