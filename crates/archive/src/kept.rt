@@ -97,7 +97,8 @@ impl Model for Archive {
 
 #[tactic(auto, using(cta_model::proofs::Newest::scans, cta_model::proofs::Newest::moments))]
 impl Archive {
-    /// An archive with an empty history, in which all drives are up. After an error the site is dropped. It takes constant time.
+    /// An archive with an empty history, in which all drives are up. After an error the site is dropped. It takes
+    /// constant time.
     pub fn new(alloc: Global, site: ValidSite) -> Result<Archive, NoMemory>
         ensures { IfOk result (λ archive. archive ≡ record { site = site; history = [] }) }
     {
@@ -115,7 +116,8 @@ impl Archive {
         &self.site
     }
 
-    /// That the history is legal for the site, and each of its asks is one that is served: a law, which does nothing when it runs.
+    /// That the history is legal for the site, and each of its asks is one that is served: a law, which does nothing
+    /// when it runs.
     pub fn keeps_history(&self)
         ensures legal { IsLegal self.now.site self.now.history }
         ensures built { AreBuilt self.now.history }
@@ -165,8 +167,10 @@ impl Archive {
 
     /// Answers an ask at this moment, in seconds since 1970, or at the last entry's where that is later.
     ///
-    /// The answer is the sequential archive's on the history, where the ask is one that is served, and otherwise the refusal
-    /// `NotBuilt`. An accepted ask appends its one entry, and a refused one changes nothing. After an error nothing has changed,
+    /// The answer is the sequential archive's on the history, where the ask is one that is served, and otherwise the
+    /// refusal
+    /// `NotBuilt`. An accepted ask appends its one entry, and a refused one changes nothing. After an error nothing has
+    /// changed,
     /// and the ask is given back. So far it takes time linear in the history.
     pub fn ask(&mut self, alloc: Global, at: u64, ask: Ask) -> Result<Answer, (NoMemory, Ask)>
         requires at { at ≤ greatest_moment }
@@ -200,7 +204,8 @@ impl Archive {
 
     /// Answers a look at this moment, in seconds since 1970, and changes nothing.
     ///
-    /// The answer is the sequential archive's on the history, where the look is one that is served, and otherwise the refusal
+    /// The answer is the sequential archive's on the history, where the look is one that is served, and otherwise the
+    /// refusal
     /// `NotBuilt`. So far it takes time linear in the history for each path that is asked.
     pub fn look(&self, alloc: Global, at: u64, look: &Look) -> Result<Answer, NoMemory>
         requires at { at ≤ greatest_moment }

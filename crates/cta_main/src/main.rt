@@ -1,4 +1,6 @@
-//! `cta`, the scheduler and catalogue of a tape archive. So far it replays a script for a site: `cta replay SITE` reads the site from the file SITE and the script from standard input, and writes the replies to standard output. For every status other than 0 it prints one line on standard error, and ends with the status's number.
+//! `cta`, the scheduler and catalogue of a tape archive. So far it replays a script for a site: `cta replay SITE` reads
+//! the site from the file SITE and the script from standard input, and writes the replies to standard output. For every
+//! status other than 0 it prints one line on standard error, and ends with the status's number.
 #![tactic(auto)]
 
 mod report;

@@ -4,7 +4,8 @@ ghost use Rattle.std.specs.Prelude.{◌≡◌, IfOk};
 use blob::Sum256;
 use cta_site::{NoMemory, Rows, TapeState, Text};
 
-/// Who asks: the requester and the group that the front end vouches for. Each is at most 128 bytes, and empty where it is
+/// Who asks: the requester and the group that the front end vouches for. Each is at most 128 bytes, and empty where it
+/// is
 /// not said. This project's own.
 #[derive(Drop)]
 pub struct Who {
@@ -23,7 +24,8 @@ impl Who {
     }
 }
 
-/// A job: the number of the entry that it was born by, the number of its file, and the copy, from 1; copy 0 is the file's
+/// A job: the number of the entry that it was born by, the number of its file, and the copy, from 1; copy 0 is the
+/// file's
 /// recall. Jobs are ordered by birth, then file, then copy.
 #[derive(Clone, Copy, Debug, PartialEq, Eq, PartialOrd, Ord)]
 pub struct Job {
@@ -40,7 +42,8 @@ pub struct Item {
     pub sum: Sum256,
 }
 
-/// A file that a stage request wants, and for how many seconds it is to stay on disk; the site's limit where it is not said.
+/// A file that a stage request wants, and for how many seconds it is to stay on disk; the site's limit where it is not
+/// said.
 #[derive(Drop)]
 pub struct Wanted {
     pub path: Text,
@@ -72,7 +75,8 @@ pub enum Fate {
     Stale,
 }
 
-/// What changes the archive, if it is accepted. Drives and tapes are named by their numbers in the site, requests by the
+/// What changes the archive, if it is accepted. Drives and tapes are named by their numbers in the site, requests by
+/// the
 /// number of their Stage or Repack, and mounts by the number of their Next. The six from `Next` to `End` are a drive
 /// session's, all others a caller's.
 #[derive(Drop)]

@@ -2,7 +2,8 @@
 use crate::asks::Direction;
 use cta_site::{Rows, TapeState, Text};
 
-/// How a stage request stands. It starts at its files' least start, and is completed at their greatest finish, once each has
+/// How a stage request stands. It starts at its files' least start, and is completed at their greatest finish, once
+/// each has
 /// one.
 #[derive(Drop)]
 pub struct StageInfo {
@@ -86,7 +87,8 @@ pub struct FailedCopy {
     pub errors: Rows<Text>,
 }
 
-/// What is on a tape: its used bytes, how many copies of live files have their place on it, and the fSeq of the next item.
+/// What is on a tape: its used bytes, how many copies of live files have their place on it, and the fSeq of the next
+/// item.
 #[derive(Drop)]
 pub struct TapeInfo {
     pub vid: Text,

@@ -27,7 +27,8 @@ pub struct Charge {
     pub fault: Fault,
 }
 
-/// A queue that a drive may mount, and the tape. Its key is a pool or a tape, by its number in the site; `birth` is the entry
+/// A queue that a drive may mount, and the tape. Its key is a pool or a tape, by its number in the site; `birth` is the
+/// entry
 /// by which its first job was born.
 #[derive(Clone, Copy, Debug, PartialEq, Eq)]
 pub struct Candidate {
@@ -38,7 +39,8 @@ pub struct Candidate {
     pub birth: u32,
 }
 
-/// How a file of a stage request stands, beside what is reported of it: which file its path named, the birth of the recall
+/// How a file of a stage request stands, beside what is reported of it: which file its path named, the birth of the
+/// recall
 /// that it waits for (0 where it waits for none), and whether it was released.
 #[derive(Drop)]
 pub struct StageFile {

@@ -9,9 +9,12 @@ use crate::numbers::member;
 use crate::valid_site::ValidSite;
 use std::alloc::Global;
 
-/// The site that a site file tells, for the one text of a site file that is read so far: a fixed line in which the numbers of the limits `buffer` (1 to 2,147,483,648), `file` (0 to 1,073,741,824, at most `buffer`) and `history` (1 to 1,000,000) may differ, each in decimal digits with no sign and no leading zero.
+/// The site that a site file tells, for the one text of a site file that is read so far: a fixed line in which the
+/// numbers of the limits `buffer` (1 to 2,147,483,648), `file` (0 to 1,073,741,824, at most `buffer`) and `history` (1
+/// to 1,000,000) may differ, each in decimal digits with no sign and no leading zero.
 ///
-/// None exactly where the bytes are no such text. NoMemory where the site finds no memory. Its cost is the number of bytes. The form is this project's own.
+/// None exactly where the bytes are no such text. NoMemory where the site finds no memory. Its cost is the number of
+/// bytes. The form is this project's own.
 pub fn read_first_site(alloc: Global, bytes: &[u8]) -> Result<Option<ValidSite>, NoMemory>
     ensures { IfOk result (λ read. MatchOption read ((site : Site) → ¬ IsFirstSite bytes.now site) (λ site. IsFirstSite bytes.now site)) }
 {

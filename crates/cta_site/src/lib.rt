@@ -1,6 +1,10 @@
 //! The site: what a tape archive is given by its operator, and what follows from it by name.
 //!
-//! `Site` is a site as its file says it, `ValidSite` one that keeps the rules of a site. A `ValidSite` numbers its virtual organisations, storage classes, tape pools, mount policies, libraries, tapes and drives from 0 in byte order of their names, and answers by name: the storage class of a path, a caller's mount policy, the pool of a copy, the number of a drive or a tape. The crate also has the two building blocks of all public types here and above: `Text`, which contracts see as its bytes, and `Rows`, which they see as its items and the room that is left.
+//! `Site` is a site as its file says it, `ValidSite` one that keeps the rules of a site. A `ValidSite` numbers its
+//! virtual organisations, storage classes, tape pools, mount policies, libraries, tapes and drives from 0 in byte order
+//! of their names, and answers by name: the storage class of a path, a caller's mount policy, the pool of a copy, the
+//! number of a drive or a tape. The crate also has the two building blocks of all public types here and above: `Text`,
+//! which contracts see as its bytes, and `Rows`, which they see as its items and the room that is left.
 #![tactic(auto)]
 
 mod bytes;

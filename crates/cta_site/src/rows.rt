@@ -42,7 +42,8 @@ impl<T> Rows<T> {
         self.inner.len()
     }
 
-    /// Makes room for at least this many more items, and never makes the room smaller. NoMemory changes no item. Its cost is the number of items.
+    /// Makes room for at least this many more items, and never makes the room smaller. NoMemory changes no item. Its
+    /// cost is the number of items.
     pub fn reserve(&mut self, more: u32) -> Result<(), NoMemory>
         ensures items { self.new.items ≡ self.old.items }
         ensures room { OnOk result (more ≤ self.new.room) }

@@ -3,7 +3,8 @@
 use crate::rows::Rows;
 use crate::text::Text;
 
-/// A site as its file says it; whether it keeps the rules of a site is said by `ValidSite`. The members are those of this project's own site file.
+/// A site as its file says it; whether it keeps the rules of a site is said by `ValidSite`. The members are those of
+/// this project's own site file.
 #[derive(Drop)]
 pub struct Site {
     /// The version of the file's form.

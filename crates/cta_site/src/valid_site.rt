@@ -17,9 +17,11 @@ use crate::text::Text;
 use crate::twin::site_twin;
 use std::marker::Model;
 
-/// A site that keeps the rules of a site (this project's own). Contracts see it as the `Site`, with no room to spare in its lists, so that two are equal where they say the same.
+/// A site that keeps the rules of a site (this project's own). Contracts see it as the `Site`, with no room to spare in
+/// its lists, so that two are equal where they say the same.
 ///
-/// Virtual organisations, storage classes, tape pools, mount policies, libraries, tapes and drives are numbered from 0 in byte order of their names (VIDs for tapes), so order of numbers is order of names.
+/// Virtual organisations, storage classes, tape pools, mount policies, libraries, tapes and drives are numbered from 0
+/// in byte order of their names (VIDs for tapes), so order of numbers is order of names.
 #[derive(Drop)]
 pub struct ValidSite {
     site: Site,
@@ -53,7 +55,8 @@ impl ValidSite {
         let _site = &self.site;
     }
 
-    /// That drives and tapes are named: each name has its form and names one drive, and each VID one tape. A law, which does nothing when it runs.
+    /// That drives and tapes are named: each name has its form and names one drive, and each VID one tape. A law, which
+    /// does nothing when it runs.
     pub fn names_differ(&self)
         ensures drives_named { DrivesAreNamed self.now }
         ensures drives_found { DrivesAreFound self.now }
@@ -63,7 +66,8 @@ impl ValidSite {
         let _site = &self.site;
     }
 
-    /// That a path's class and a caller's policy are the site's own, and that a path with a class has 1 to 4 copies. A law, which does nothing when it runs.
+    /// That a path's class and a caller's policy are the site's own, and that a path with a class has 1 to 4 copies. A
+    /// law, which does nothing when it runs.
     pub fn numbers_are_known(&self)
         ensures classes { ClassesAreKnown self.now }
         ensures policies { PoliciesAreKnown self.now }
@@ -191,7 +195,9 @@ impl ValidSite {
         self.site.failures.as_slice()
     }
 
-    /// The number of the storage class that a path has: that of the longest site directory such that the path begins with it and a slash. None exactly where no site directory is so. The site has the class (`numbers_are_known`). Its cost is the sum of the lengths of the directories' paths and the number of classes.
+    /// The number of the storage class that a path has: that of the longest site directory such that the path begins
+    /// with it and a slash. None exactly where no site directory is so. The site has the class (`numbers_are_known`).
+    /// Its cost is the sum of the lengths of the directories' paths and the number of classes.
     pub fn class_of(&self, path: &[u8]) -> Option<u32>
         ensures { result ≡ class_of self.now path.now }
     {
@@ -202,7 +208,8 @@ impl ValidSite {
         }
     }
 
-    /// How many copies the path's storage class has, 1 to 4, and 0 where the path has no class. Its cost is that of `class_of`.
+    /// How many copies the path's storage class has, 1 to 4, and 0 where the path has no class. Its cost is that of
+    /// `class_of`.
     pub fn copies_of(&self, path: &[u8]) -> u8
         ensures { result ≡ copies_of self.now path.now }
     {
@@ -212,7 +219,8 @@ impl ValidSite {
         }
     }
 
-    /// The number of the mount policy of a caller: of the requester's rule, else of the group's rule, else the default policy. The site has the policy (`numbers_are_known`). Its cost is the number of rules and policies.
+    /// The number of the mount policy of a caller: of the requester's rule, else of the group's rule, else the default
+    /// policy. The site has the policy (`numbers_are_known`). Its cost is the number of rules and policies.
     pub fn policy_of(&self, requester: &[u8], group: &[u8]) -> u32
         ensures { result ≡ policy_of self.now requester.now group.now }
     {
@@ -222,7 +230,8 @@ impl ValidSite {
         policy_number(self.site.policies.as_slice(), name)
     }
 
-    /// The number of the pool that this copy, counted from 1, of the storage class of this number goes to. The site must have the class and a route for the copy. Its cost is the number of routes and pools.
+    /// The number of the pool that this copy, counted from 1, of the storage class of this number goes to. The site
+    /// must have the class and a route for the copy. Its cost is the number of routes and pools.
     pub fn pool_of(&self, class: u32, copy: u8) -> u32
         requires class { class < length self.now.classes.items }
         requires route { HasRoute self.now class copy }

@@ -27,7 +27,8 @@ impl Ahead {
         }
     }
 
-    // Gives bytes that are held; where none is, those that one read of `from` gives. Nothing is read for an empty place.
+    // Gives bytes that are held; where none is, those that one read of `from` gives. Nothing is read for an empty
+    // place.
     pub(crate) fn read<R: Read>(&mut self, from: &mut R, to: &mut [u8]) -> Result<usize, Failed>
         ensures { ReadsAtMost result to.new }
     {

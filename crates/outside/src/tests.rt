@@ -4,7 +4,8 @@ use std::alloc::Global;
 use std::process::Abort;
 use std::test::Fail;
 
-// Three reads of up to three bytes from `abcd`, the one with the number `planned` to fail: each answer, and what is left.
+// Three reads of up to three bytes from `abcd`, the one with the number `planned` to fail: each answer, and what is
+// left.
 fn reads(
     rt: &impl Abort,
     alloc: Global,

@@ -1,23 +1,21 @@
 -- How a script ends: what the parts of a reading make of it.
-use Rattle.std.proofs.Common.{◌≡◌, ◌≢◌, ℕ, ◌+◌, ◌-◌, ◌≤◌, inl, inr, List, [], ◌∷◌, ◌++◌, length, Bool, true, false, Option, None, Some, Result, refl, sym, ap, ◌∙◌, subst, arith, append-nil, append_assoc, length-append}
+use Rattle.std.proofs.Common.{◌≡◌, ℕ, ◌+◌, ◌-◌, ◌≤◌, inl, inr, List, [], ◌∷◌, ◌++◌, length, true, false, Option, None, Some, refl, sym, ap, ◌∙◌, subst, arith, append-nil, append_assoc, length-append}
 use Rattle.std.specs.Io.KnownBytes.{Appends}
-use Rattle.std.proofs.KnownBytes.{Appends-trans, Appends-nil}
+use Rattle.std.proofs.KnownBytes.{Appends-trans}
 use Rattle.std.proofs.lemmas.List.Concat.{flat_map-append}
 use Rattle.outside.specs.Streams.{AppendsFront}
-use Rattle.cta_site.specs.declared.site.Site.{Site}
 use Rattle.cta_model.specs.Kept.{Kept}
 use Rattle.replay.specs.Line.{http_text, IsHttp}
-use Rattle.replay.specs.Message.{Message, IsMessage, message_text}
-use Rattle.replay.specs.Script.{Event, Feed, Held, OneMessage, NoMessage, IsHeld, held_bytes, fed, is_message, Cut, InBytes, NoLf, UnbuiltBytes, IsOpen, ended, cut_events, whole_bytes, tail_events, spelling}
+use Rattle.replay.specs.Message.{message_text}
+use Rattle.replay.specs.Script.{Event, Feed, Held, OneMessage, NoMessage, IsHeld, held_bytes, fed, is_message, Cut, InBytes, NoLf, UnbuiltBytes, IsOpen, ended, cut_events, whole_bytes, spelling}
 use Rattle.replay.specs.Output.{output_from, after, frames_from, joined, next, frames_at}
 use Rattle.replay.specs.Intake.{Took, HasStopped}
-use Rattle.replay.specs.Outcome.{World, Wrote, IsScriptFault, IsUnbuiltAt, Ends, FinishesAfter, TurnsAfter, TookLf, TookNoRecord, status_of, unwritten_status, IsUnwritten}
+use Rattle.replay.specs.Outcome.{World, Wrote, Ends, FinishesAfter, TurnsAfter, TookLf, TookNoRecord, status_of, unwritten_status, IsUnwritten}
 use Rattle.replay.specs.declared.intake.Stop.{Stop}
 use Rattle.replay.specs.declared.intake.Stop.TheVariants.{End, Fault, Full, Memory}
 use Rattle.replay.specs.declared.output.Unwritten.{Unwritten}
 use Rattle.replay.specs.declared.output.Unwritten.TheVariants.{Broken, Wanting}
 use Rattle.replay.specs.declared.status.Status.{Status}
-use Rattle.replay.specs.declared.status.Status.TheVariants.{Ok, Usage, Site as SiteRule, Script, ReadFault, WriteFault, NoMemory, TooLong, ListenFault, NotBuilt}
 use Rattle.replay.proofs.Taking.{Took-trans}
 
 -- ---- what is written for events, one after the other

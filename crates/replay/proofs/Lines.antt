@@ -1,14 +1,14 @@
 -- What a reading of a record makes of its line.
-use Rattle.std.proofs.Common.{◌≡◌, ◌≢◌, ℕ, ◌+◌, ◌≤◌, inl, inr, List, [], ◌∷◌, ◌++◌, length, codes, Option, None, Some, refl, sym, ap, ◌∙◌, subst, arith, append-nil}
+use Rattle.std.proofs.Common.{◌≡◌, ◌≢◌, ℕ, ◌≤◌, inl, List, [], ◌∷◌, ◌++◌, length, codes, Option, None, Some, refl, sym, ap, ◌∙◌, subst, arith}
 use Rattle.std.specs.Io.KnownBytes.{Appends}
 use Rattle.std.proofs.KnownBytes.{Appends-nil}
 use Rattle.cta_model.specs.Kept.{Kept}
 use Rattle.replay.specs.Bytes.{Without}
 use Rattle.replay.specs.Line.{text, IsStep, IsLine}
-use Rattle.replay.specs.Script.{Cut, Ended, InLine, BadLine, LongLine, UnbuiltStep, ended}
-use Rattle.replay.specs.Output.{output_from, after}
+use Rattle.replay.specs.Script.{Cut, Ended, InLine, BadLine, LongLine, UnbuiltStep}
+use Rattle.replay.specs.Output.{output_from}
 use Rattle.replay.specs.Intake.{Took, HasStopped}
-use Rattle.replay.specs.Outcome.{World, world, Ends, Finishes, Turns, TurnsAfter, status_of}
+use Rattle.replay.specs.Outcome.{World, world, Finishes, Turns, TurnsAfter, status_of}
 use Rattle.replay.specs.declared.line.Line.{Line}
 use Rattle.replay.specs.declared.line.Line.TheVariants.{Step}
 use Rattle.replay.specs.declared.intake.Stop.{Stop}

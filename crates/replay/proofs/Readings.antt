@@ -1,11 +1,11 @@
 -- A script that reaches its line `end` is read to it: each reading of it stops before, inside of what may go on, or there.
-use Rattle.std.proofs.Common.{◌≡◌, ℕ, ◌+◌, ◌<◌, ◌≤◌, ◌^◌, ◌⊎◌, inl, inr, List, [], ◌∷◌, ◌++◌, length, codes, refl, sym, ap, ◌∙◌, arith, append_assoc, length-append}
+use Rattle.std.proofs.Common.{◌≡◌, ℕ, ◌+◌, ◌<◌, ◌≤◌, ◌⊎◌, inl, inr, List, [], ◌∷◌, ◌++◌, length, codes, refl, sym, ap, ◌∙◌, arith, append_assoc, length-append}
 use Rattle.std.specs.List.{AllByRecursion}
 use Rattle.std.proofs.lemmas.List.{append_cancel_left}
 use Rattle.cta_site.specs.declared.site.Site.{Site}
 use Rattle.replay.specs.Line.{text, http_text}
 use Rattle.replay.specs.Message.{message_text}
-use Rattle.replay.specs.Script.{Event, Feed, Held, OneMessage, NoMessage, held_bytes, Tail, Ended, InLine, InBytes, BadLine, LongLine, NoLf, UnbuiltStep, UnbuiltBytes, IsOpen, IsTail, IsEvent, ended, feeding, http_record, whole_bytes, tail_bytes, spelling}
+use Rattle.replay.specs.Script.{Event, Feed, held_bytes, Tail, Ended, InLine, InBytes, BadLine, LongLine, NoLf, UnbuiltStep, UnbuiltBytes, IsOpen, IsTail, IsEvent, ended, feeding, http_record, whole_bytes, tail_bytes, spelling}
 use Rattle.replay.specs.declared.line.Line.{Line}
 use Rattle.replay.specs.declared.line.Line.TheVariants.{Http, Step, End}
 use Rattle.replay.proofs.Texts.{IsBuiltLine, line_text, same_line, same_head, same_front, same_message, not_step, length-without, length-text, Without-text}

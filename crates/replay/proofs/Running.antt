@@ -1,14 +1,12 @@
 -- A run over whole records, and its end.
-use Rattle.std.proofs.Common.{◌≡◌, ℕ, ◌+◌, ◌<◌, ◌≤◌, Bool, true, false, List, [], ◌∷◌, ◌++◌, length, refl, sym, ap, ◌∙◌, subst, arith, append-nil, append_assoc}
+use Rattle.std.proofs.Common.{◌≡◌, ℕ, ◌<◌, ◌≤◌, Bool, true, false, List, [], ◌∷◌, ◌++◌, length, refl, sym, ap, ◌∙◌, subst, arith, append-nil, append_assoc}
 use Rattle.std.specs.List.{AllByRecursion}
 use Rattle.std.specs.Io.KnownBytes.{Appends}
 use Rattle.std.proofs.KnownBytes.{Appends-trans, Appends-nil}
-use Rattle.cta_site.specs.declared.site.Site.{Site}
 use Rattle.cta_model.specs.Kept.{Kept, kept_after}
 use Rattle.cta_model.specs.Answers.{is_accepted}
 use Rattle.cta_model.specs.declared.asks.Ask.{Ask}
 use Rattle.cta_model.specs.declared.answers.Answer.{Answer}
-use Rattle.replay.specs.Message.{Message, PutFile, AskInfo}
 use Rattle.replay.specs.Script.{Event, Feed, IsEvent, IsCut, cut_bytes, whole_bytes, tail_bytes, spelling}
 use Rattle.replay.specs.Output.{Asked, Change, See, asked, answered, kept_then, next, after, fresh, output_from}
 use Rattle.replay.specs.Intake.{Took}

@@ -1,5 +1,5 @@
 -- The site that a site file tells.
-use Rattle.std.proofs.Common.{◌≡◌, ℕ, ◌<◌, ◌≤◌, ◌^◌, inl, inr, List, ◌++◌, length, codes, Option, None, Some, Result, Ok, Err, refl, sym, ap, ◌∙◌, subst, arith, append-nil, length-append}
+use Rattle.std.proofs.Common.{◌≡◌, ℕ, ◌<◌, ◌≤◌, ◌^◌, inr, List, length, codes, Option, Result, Ok, Err, sym, ap, ◌∙◌, arith}
 use Rattle.std.specs.Io.KnownBytes.{Consumes, IsAtEnd}
 use Rattle.cta_site.specs.FirstSite.{IsFirstSite, AreFirstLimits, first_site, first_site_text, text_before, text_from_file, text_from_history, text_behind, then_number}
 use Rattle.std.specs.Fmt.{decimal}

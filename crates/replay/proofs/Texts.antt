@@ -1,12 +1,12 @@
 -- The texts of the lines that are built: they hold no LF, are short, and differ. And the texts of messages: they differ too.
-use Rattle.std.proofs.Common.{◌≡◌, ◌≢◌, ℕ, ◌<◌, ◌≤◌, ◌^◌, List, [], ◌∷◌, ◌++◌, length, codes, refl, sym, ap, ◌∙◌, arith, length-append}
+use Rattle.std.proofs.Common.{◌≡◌, ◌≢◌, ℕ, ◌<◌, ◌≤◌, ◌^◌, List, [], ◌∷◌, ◌++◌, length, codes, refl, ap, ◌∙◌, arith, length-append}
 use Rattle.std.specs.Fmt.{decimal}
 use Rattle.std.proofs.lemmas.Fmt.{decimal_injective, length-decimal-le}
 use Rattle.std.proofs.lemmas.List.{append_cancel_left}
 use Rattle.cta_site.specs.declared.site.Site.{Site}
 use Rattle.replay.specs.Bytes.{Without, then_byte}
 use Rattle.replay.specs.Line.{text, http_text, http_words, then_word, IsHttp}
-use Rattle.replay.specs.Message.{Message, PutFile, AskInfo, IsMessage, IsNamedPath, message_text, with_body, info_body}
+use Rattle.replay.specs.Message.{Message, PutFile, AskInfo, IsMessage, message_text, with_body, info_body}
 use Rattle.replay.specs.declared.line.Line.{Line}
 use Rattle.replay.specs.declared.line.Line.TheVariants.{Http, Step, End}
 use Rattle.replay.proofs.Parts.{same_words, Without-append, Without-decimal}

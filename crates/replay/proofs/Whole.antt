@@ -5,7 +5,6 @@ use Rattle.outside.specs.Causes.{Rose}
 use Rattle.cta_site.specs.FirstSite.{IsFirstSite}
 use Rattle.cta_site.specs.declared.site.Site.{Site}
 use Rattle.replay.specs.Outcome.{ReachesEnd, IsReadWhole}
-use Rattle.replay.specs.Script.{Event}
 use Rattle.replay.specs.SiteFile.{NoSite, site_limit}
 use Rattle.replay.specs.Top.{Handed, Runs, RunsWhole}
 use Rattle.replay.specs.declared.status.Status.{Status}

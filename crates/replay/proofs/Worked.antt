@@ -1,10 +1,10 @@
 -- The two scripts of the examples are read as is said there, and their output computes.
-use Rattle.std.proofs.Common.{◌≡◌, ℕ, List, [], ◌∷◌, ◌++◌, length, codes, Some, inl, refl, lit≤}
+use Rattle.std.proofs.Common.{◌≡◌, [], ◌++◌, codes, Some, inl, refl, lit≤}
 use Rattle.std.specs.List.{AllByRecursion}
 use Rattle.std.specs.Fmt.{digits}
-use Rattle.replay.specs.Message.{PutFile, AskInfo, IsNamedPath}
+use Rattle.replay.specs.Message.{IsNamedPath}
 use Rattle.replay.specs.Reply.{reply_text}
-use Rattle.replay.specs.Script.{Event, IsEvent, ended, whole_bytes}
+use Rattle.replay.specs.Script.{IsEvent, ended, whole_bytes}
 use Rattle.replay.specs.Output.{output_of, answered, kept_then, frame}
 use Rattle.replay.specs.Outcome.{ReachesEnd}
 use Rattle.replay.specs.Examples.{small_site, put_and_ask, put_and_ask_script, put_and_ask_output}

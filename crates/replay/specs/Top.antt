@@ -1,5 +1,5 @@
 -- What a run of `cta replay` says.
-use Rattle.std.specs.Prelude.{◌≡◌, ℕ, ◌≤◌, ◌⊎◌, List, length, Option, None, Some}
+use Rattle.std.specs.Prelude.{◌≡◌, ℕ, ◌≤◌, ◌⊎◌, List, length, Option, Some}
 use Rattle.outside.specs.Causes.{Rose}
 use Rattle.cta_site.specs.FirstSite.{IsFirstSite}
 use Rattle.cta_site.specs.declared.site.Site.{Site}

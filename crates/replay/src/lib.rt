@@ -1,4 +1,6 @@
-//! The replay of a script: a site file and a script are read from their sources, each message of the script is asked of an archive of that site, and each reply is written in a frame of its own. `replay_top` is the run of the program `cta replay`; its contract says for each status when it comes, which bytes were taken then and which were written.
+//! The replay of a script: a site file and a script are read from their sources, each message of the script is asked of
+//! an archive of that site, and each reply is written in a frame of its own. `replay_top` is the run of the program
+//! `cta replay`; its contract says for each status when it comes, which bytes were taken then and which were written.
 #![tactic(auto)]
 
 mod answering;

@@ -35,19 +35,30 @@ fn replay_site<A: Source, S: Source, K: Sink>(
 
 /// Runs a script for a site: the run of `cta replay SITE` (this project's own form).
 ///
-/// `words` are the words of the command line behind the program's name; their one form is `replay` and a word that is not empty and begins with no `-`. `site_bytes` gives the site file, of at most 16,777,216 bytes, and `script` the script. A script is a list of records up to the line `end`, whose bytes after its LF are not read. The record `http LINK MOMENT LENGTH` LF, LENGTH bytes, LF gives its bytes to the link LINK (0 to 1,023) at the MOMENT (seconds since 1970, up to 253,402,300,799); they are one whole PUT of a file under `/data` or one whole archiveinfo. `out` takes for each reply the line `reply LINK LENGTH`, the LENGTH bytes of the reply and LF.
+/// `words` are the words of the command line behind the program's name; their one form is `replay` and a word that is
+/// not empty and begins with no `-`. `site_bytes` gives the site file, of at most 16,777,216 bytes, and `script` the
+/// script. A script is a list of records up to the line `end`, whose bytes after its LF are not read. The record `http
+/// LINK MOMENT LENGTH` LF, LENGTH bytes, LF gives its bytes to the link LINK (0 to 1,023) at the MOMENT (seconds since
+/// 1970, up to 253,402,300,799); they are one whole PUT of a file under `/data` or one whole archiveinfo. `out` takes
+/// for each reply the line `reply LINK LENGTH`, the LENGTH bytes of the reply and LF.
 ///
-/// The statuses are looked at in the order in which the work meets them: words, site file, then the script record by record.
+/// The statuses are looked at in the order in which the work meets them: words, site file, then the script record by
+/// record.
 /// - `Ok`: the script was read to its line `end`, what follows is left in the source, and all replies were written.
 /// - `Usage`: the words are of another form. Nothing was read or written.
-/// - `NotBuilt`: the site file is none of the one form that is read so far, with offset 0, the script untouched and nothing written; or at this offset, in bytes of the script from 0, begins the first whole record that is a `step` of a drive of the site, or whose bytes are neither message. All replies before it were written.
-/// - `Script`: at this offset no record begins or goes on, or the script ended there, in a record or before `end`. A record that is cut has fed what it held. All replies were written.
-/// - `ReadFault`: the count of faults of the site file's source rose in this call, the script is untouched and nothing was written; or that of the script's, and all replies were written.
+/// - `NotBuilt`: the site file is none of the one form that is read so far, with offset 0, the script untouched and
+///   nothing written; or at this offset, in bytes of the script from 0, begins the first whole record that is a `step`
+///   of a drive of the site, or whose bytes are neither message. All replies before it were written.
+/// - `Script`: at this offset no record begins or goes on, or the script ended there, in a record or before `end`. A
+///   record that is cut has fed what it held. All replies were written.
+/// - `ReadFault`: the count of faults of the site file's source rose in this call, the script is untouched and nothing
+///   was written; or that of the script's, and all replies were written.
 /// - `WriteFault`: the count of faults of `out` rose in this call. A front of the replies was written.
 /// - `NoMemory`: memory was wanted. Whole replies were written, from the first on.
 /// - `TooLong`: 2^32 bytes of the script were taken without `end`. All replies were written.
 ///
-/// `Site` and `ListenFault` are not answered. It always returns. Its memory is that of the longest record and the archive; its time that of the archive's asks and looks beside the bytes.
+/// `Site` and `ListenFault` are not answered. It always returns. Its memory is that of the longest record and the
+/// archive; its time that of the archive's asks and looks beside the bytes.
 pub fn replay_top<A: Source, S: Source, K: Sink>(
     alloc: Global,
     words: &[String],

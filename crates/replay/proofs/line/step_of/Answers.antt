@@ -1,4 +1,4 @@
-use Rattle.std.proofs.Common.{arith, ◌∙◌}
+use Rattle.std.proofs.Common.{◌∙◌}
 use Rattle.replay.specs.Line.{drive_name}
 use Rattle.replay.proofs.Parts.{same_words, no_word}
 use Rattle.replay.proofs.Drives.{Without-drive}

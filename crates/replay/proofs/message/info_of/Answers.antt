@@ -1,5 +1,5 @@
-use Rattle.std.proofs.Common.{◌≡◌, ◌≤◌, List, ℕ, ◌∷◌, length, codes, arith, sym, ap, ◌∙◌, length-append}
-use Rattle.replay.specs.Message.{IsNamedPath, with_body, info_body}
+use Rattle.std.proofs.Common.{◌≤◌, List, ℕ, ◌∷◌, length, codes, arith, sym, ◌∙◌, length-append}
+use Rattle.replay.specs.Message.{IsNamedPath, info_body}
 use Rattle.replay.proofs.Messages.{length-path, same_body}
 use Rattle.replay.proofs.message.info_of.Goals as goal
 

@@ -1,4 +1,4 @@
-use Rattle.std.proofs.Common.{◌≡◌, List, ℕ, ◌∷◌, ◌++◌, codes, sym, ◌∙◌, arith}
+use Rattle.std.proofs.Common.{◌≡◌, List, ℕ, ◌++◌, codes, sym, ◌∙◌}
 use Rattle.std.proofs.lemmas.List.{append_cancel_left}
 use Rattle.replay.specs.Bytes.{then_byte}
 use Rattle.replay.specs.Message.{Message, PutFile, AskInfo, IsMessage, IsNamedPath, message_text, with_body, info_body}

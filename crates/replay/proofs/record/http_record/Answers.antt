@@ -1,4 +1,4 @@
-use Rattle.std.proofs.Common.{◌≡◌, ◌≤◌, length, refl, sym, ap, ◌∙◌, subst, arith}
+use Rattle.std.proofs.Common.{◌≡◌, ◌≤◌, length, sym, ap, ◌∙◌, subst, arith}
 use Rattle.replay.specs.Script.{held_bytes}
 use Rattle.replay.specs.Intake.{Took}
 use Rattle.replay.specs.Outcome.{world}

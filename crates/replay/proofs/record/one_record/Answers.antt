@@ -1,5 +1,4 @@
-use Rattle.std.proofs.Common.{◌≡◌, ◌≤◌, length, take, length-take, refl, sym, ap, ◌∙◌, subst, arith}
-use Rattle.replay.specs.Line.{text, IsLine}
+use Rattle.std.proofs.Common.{◌≤◌, length, take, length-take, refl, ap, arith}
 use Rattle.replay.specs.Script.{ended}
 use Rattle.replay.specs.Outcome.{world}
 use Rattle.replay.proofs.Ending.{http_line}

@@ -1,6 +1,5 @@
-use Rattle.std.proofs.Common.{◌<◌, length, arith}
-use Rattle.replay.specs.Script.{spelling}
-use Rattle.replay.proofs.Running.{Ran-more, Ran-ends_fresh, spelling_positive}
+use Rattle.std.proofs.Common.{arith}
+use Rattle.replay.proofs.Running.{Ran-more, Ran-ends_fresh}
 use Rattle.replay.proofs.run.run_script.Goals as goal
 
 pub returns-in-Some : goal.returns-in-Some
