@@ -168,10 +168,8 @@ impl Archive {
     /// Answers an ask at this moment, in seconds since 1970, or at the last entry's where that is later.
     ///
     /// The answer is the sequential archive's on the history, where the ask is one that is served, and otherwise the
-    /// refusal
-    /// `NotBuilt`. An accepted ask appends its one entry, and a refused one changes nothing. After an error nothing has
-    /// changed,
-    /// and the ask is given back. So far it takes time linear in the history.
+    /// refusal `NotBuilt`. An accepted ask appends its one entry, and a refused one changes nothing. After an error
+    /// nothing has changed, and the ask is given back. So far it takes time linear in the history.
     pub fn ask(&mut self, alloc: Global, at: u64, ask: Ask) -> Result<Answer, (NoMemory, Ask)>
         requires at { at ≤ greatest_moment }
         ensures answer { IfOk result (λ a. bare_answer a ≡ served_answer self.old.site self.old.history at ask) }
@@ -205,8 +203,7 @@ impl Archive {
     /// Answers a look at this moment, in seconds since 1970, and changes nothing.
     ///
     /// The answer is the sequential archive's on the history, where the look is one that is served, and otherwise the
-    /// refusal
-    /// `NotBuilt`. So far it takes time linear in the history for each path that is asked.
+    /// refusal `NotBuilt`. So far it takes time linear in the history for each path that is asked.
     pub fn look(&self, alloc: Global, at: u64, look: &Look) -> Result<Answer, NoMemory>
         requires at { at ≤ greatest_moment }
         ensures { IfOk result (λ a. bare_answer a ≡ served_look self.now.site self.now.history at look.now) }

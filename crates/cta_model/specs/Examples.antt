@@ -24,7 +24,7 @@ small_limits = record { buffer = 1000; file = 1000; archive_bytes = 100; retriev
 abbrev pub pool : List ℕ → TapePool
 pool name = record { name = name; vo = codes "atlas" }
 
--- an ACTIVE tape of this VID and pool, of 1,000 bytes, in the library L1
+-- an ACTIVE tape of this VID and pool, of 1,000 bytes, in the one library
 abbrev pub tape : List ℕ → List ℕ → Tape
 tape vid pool = record { vid = vid; pool = pool; library = codes "L1"; capacity = 1000; state = state.Active }
 

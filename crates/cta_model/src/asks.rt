@@ -4,8 +4,7 @@ ghost use Rattle.std.specs.Prelude.{◌≡◌, IfOk};
 use blob::Sum256;
 use cta_site::{NoMemory, Rows, TapeState, Text};
 
-/// Who asks: the requester and the group that the front end vouches for. Each is at most 128 bytes, and empty where it
-/// is
+/// Who asks: the requester and the group that the front end vouches for. Each is at most 128 bytes, and empty where it is
 /// not said. This project's own.
 #[derive(Drop)]
 pub struct Who {
@@ -24,8 +23,7 @@ impl Who {
     }
 }
 
-/// A job: the number of the entry that it was born by, the number of its file, and the copy, from 1; copy 0 is the
-/// file's
+/// A job: the number of the entry that it was born by, the number of its file, and the copy, from 1; copy 0 is the file's
 /// recall. Jobs are ordered by birth, then file, then copy.
 #[derive(Clone, Copy, Debug, PartialEq, Eq, PartialOrd, Ord)]
 pub struct Job {
@@ -75,8 +73,7 @@ pub enum Fate {
     Stale,
 }
 
-/// What changes the archive, if it is accepted. Drives and tapes are named by their numbers in the site, requests by
-/// the
+/// What changes the archive, if it is accepted. Drives and tapes are named by their numbers in the site, requests by the
 /// number of their Stage or Repack, and mounts by the number of their Next. The six from `Next` to `End` are a drive
 /// session's, all others a caller's.
 #[derive(Drop)]

@@ -9,9 +9,8 @@ pub enum Actor {
     Caller(Who),
 }
 
-/// An entry of the history: an accepted ask, its moment in seconds since 1970, from 0 to 253,402,300,799, who asked,
-/// and the
-/// answer.
+/// An entry of the history: an accepted ask, its moment in seconds since 1970, from 0 to 253,402,300,799, who asked, and
+/// the answer.
 #[derive(Drop)]
 pub struct Entry {
     pub at: u64,

@@ -1,5 +1,4 @@
-//! What the archive is asked and what it answers, as types, and in `specs/` the sequential archive: what each answer
-//! is,
+//! What the archive is asked and what it answers, as types, and in `specs/` the sequential archive: what each answer is,
 //! on which history. Every other crate of the archive is proved against these definitions.
 #![tactic(auto)]
 

@@ -2,9 +2,8 @@
 use crate::asks::Direction;
 use cta_site::{Rows, TapeState, Text};
 
-/// How a stage request stands. It starts at its files' least start, and is completed at their greatest finish, once
-/// each has
-/// one.
+/// How a stage request stands. It starts at its files' least start, and is completed at their greatest finish, once each
+/// has one.
 #[derive(Drop)]
 pub struct StageInfo {
     pub id: u32,

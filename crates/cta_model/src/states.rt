@@ -28,8 +28,7 @@ pub struct Charge {
 }
 
 /// A queue that a drive may mount, and the tape. Its key is a pool or a tape, by its number in the site; `birth` is the
-/// entry
-/// by which its first job was born.
+/// entry by which its first job was born.
 #[derive(Clone, Copy, Debug, PartialEq, Eq)]
 pub struct Candidate {
     pub direction: Direction,
@@ -40,8 +39,7 @@ pub struct Candidate {
 }
 
 /// How a file of a stage request stands, beside what is reported of it: which file its path named, the birth of the
-/// recall
-/// that it waits for (0 where it waits for none), and whether it was released.
+/// recall that it waits for (0 where it waits for none), and whether it was released.
 #[derive(Drop)]
 pub struct StageFile {
     pub file: Option<u32>,

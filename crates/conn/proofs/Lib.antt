@@ -1,0 +1,10 @@
+pub mod Bodies
+pub mod Lines
+pub mod Advancing
+pub mod Feeding
+pub mod Uniqueness
+pub mod Cuts
+pub mod Few
+pub mod FewHeads
+pub mod Outcomes
+pub mod Tails

@@ -1,0 +1,10 @@
+use Rattle.std.proofs.Common.{◌≡◌, refl, arith}
+use Rattle.conn.proofs.Bodies.{sized_more, sized_whole}
+use Rattle.conn.proofs.body.step_sized.Goals as goal
+
+pub returns-then-left-eq0-clause-steps : goal.returns-then-left-eq0-clause-steps
+returns-then-left-eq0-clause-steps c = λ limit h p inb. sized_whole limit h p _ _ _ c.requires inb (omega arith)
+
+pub returns-in-Ok-clause-steps : goal.returns-in-Ok-clause-steps
+returns-in-Ok-clause-steps c = λ limit h p inb.
+    (sized_more limit h p _ _ _ _ _ c.requires inb c.few-n.ensures.left c.few-n.ensures.there (record { head = refl; most = refl; bytes = c.in-Ok.ensures }) refl, c.few-n.ensures.some (omega arith) (omega arith))

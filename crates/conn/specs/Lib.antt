@@ -1,0 +1,6 @@
+pub mod Message
+pub mod Cut
+pub mod Reading
+pub mod Stands
+pub mod Examples
+pub mod Unique

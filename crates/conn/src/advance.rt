@@ -1,0 +1,161 @@
+// One step of a connection.
+ghost use Rattle.std.specs.Prelude.{◌≡◌, ℕ, List, Ok, IfOk};
+ghost use Rattle.conn.specs.Cut.{Event};
+ghost use Rattle.conn.specs.Stands.{StandsAt, Advances, Within, BodySteps, BodyStepWithin, AdvanceWithin, AdvanceLess, phase_of, IsFinished};
+ghost use Rattle.conn.specs.declared.state.Advance.TheVariants as Advance;
+ghost use Rattle.conn.specs.declared.request.Next.TheVariants as Next;
+ghost use Rattle.conn.specs.declared.state.State.TheVariants as State;
+
+use crate::body::{Collected, Phase, Step, go_on};
+use crate::request::{Next, Request};
+use crate::state::{Advance, BodyStep, State};
+use blob::BlobMaker;
+use cta_site::NoMemory;
+use std::alloc::Global;
+use std::mem;
+use wire_http::{BodyLen, Head, HeadRead, longest_body, read_head};
+
+fn phase_of(len: BodyLen) -> Phase
+    ensures { result ≡ phase_of len }
+{
+    match len {
+        BodyLen::Sized(n) => Phase::Sized(n),
+        BodyLen::Chunked => Phase::Line,
+    }
+}
+
+// A head, where one is whole.
+fn advance_head(
+    alloc: Global,
+    limit: u64,
+    rest: &[u8],
+    state: &mut State,
+) -> Result<Advance, NoMemory>
+    requires { state.old ≡ State.AtHead }
+    ensures steps { (fed : List ℕ) (given : List Event) → StandsAt limit state.old rest.now fed given
+        → Advances limit rest.now state.new result fed given }
+    ensures within { IfOk result (AdvanceWithin rest.now) }
+    ensures less { IfOk result (AdvanceLess rest.now state.old state.new) }
+{
+    match read_head(alloc, rest, limit)? {
+        HeadRead::Need => Ok(Advance::Gives(0, Next::Need)),
+        HeadRead::Refused(refusal) => {
+            *state = State::Over;
+            Ok(Advance::Gives(0, Next::Refused(refusal)))
+        }
+        HeadRead::Head(head) => {
+            let used = head.len as usize;
+            let expects = head.expects;
+            let phase = phase_of(head.body);
+            let most = longest_body(limit, head.method.as_bytes(), head.target.as_bytes());
+            *state = State::InBody(Collected {
+                head,
+                most,
+                maker: BlobMaker::new(alloc),
+                phase,
+            });
+            if expects {
+                Ok(Advance::Gives(used, Next::Continue))
+            } else {
+                Ok(Advance::Moved(used))
+            }
+        }
+    }
+}
+
+// The request whose body is whole with so many bytes. After want of memory the body is as before.
+fn finished(used: usize, body: Collected) -> BodyStep
+    ensures { IsFinished used body result }
+{
+    let Collected {
+        head,
+        most,
+        maker,
+        phase,
+    } = body;
+    match maker.finish() {
+        Ok(content) => BodyStep::Whole(
+            used,
+            Request {
+                method: head.method,
+                target: head.target,
+                who: head.who,
+                body: content,
+                close: head.close,
+            },
+        ),
+        Err((_, maker)) => BodyStep::NoMemory(Collected {
+            head,
+            most,
+            maker,
+            phase,
+        }),
+    }
+}
+
+// A part of a body.
+fn advance_body(rest: &[u8], mut body: Collected) -> BodyStep
+    ensures steps { (limit : ℕ) (fed : List ℕ) (given : List Event) → Within limit body rest.now fed given
+        → BodySteps limit rest.now result fed given }
+    ensures within { BodyStepWithin rest.now result }
+{
+    match go_on(rest, &mut body) {
+        Ok(Step::Moved(used)) => BodyStep::Moved(used, body),
+        Ok(Step::Need) => BodyStep::Need(body),
+        Ok(Step::Refused(refusal)) => BodyStep::Refused(refusal),
+        Ok(Step::Whole(used)) => finished(used, body),
+        Err(_) => BodyStep::NoMemory(body),
+    }
+}
+
+// One step.
+pub(crate) fn advance(
+    alloc: Global,
+    limit: u64,
+    rest: &[u8],
+    state: &mut State,
+) -> Result<Advance, NoMemory>
+    ensures steps { (fed : List ℕ) (given : List Event) → StandsAt limit state.old rest.now fed given
+        → Advances limit rest.now state.new result fed given }
+    ensures within { IfOk result (AdvanceWithin rest.now) }
+    ensures less { IfOk result (AdvanceLess rest.now state.old state.new) }
+    ensures shut { state.old ≡ State.Shut → (result ≡ Ok (Advance.Gives 0 Next.Closed)) × (state.new ≡ State.Shut) }
+{
+    match mem::replace(state, State::Shut) {
+        State::AtHead => {
+            *state = State::AtHead;
+            advance_head(alloc, limit, rest, state)
+        }
+        State::Over => {
+            *state = State::Over;
+            Ok(Advance::Gives(0, Next::Closed))
+        }
+        State::Shut => Ok(Advance::Gives(0, Next::Closed)),
+        State::InBody(body) => match advance_body(rest, body) {
+            BodyStep::Moved(used, body) => {
+                *state = State::InBody(body);
+                Ok(Advance::Moved(used))
+            }
+            BodyStep::Need(body) => {
+                *state = State::InBody(body);
+                Ok(Advance::Gives(0, Next::Need))
+            }
+            BodyStep::Refused(refusal) => {
+                *state = State::Over;
+                Ok(Advance::Gives(0, Next::Refused(refusal)))
+            }
+            BodyStep::Whole(used, request) => {
+                if request.close {
+                    *state = State::Over;
+                    return Ok(Advance::Gives(used, Next::Request(request)));
+                }
+                *state = State::AtHead;
+                Ok(Advance::Gives(used, Next::Request(request)))
+            }
+            BodyStep::NoMemory(body) => {
+                *state = State::InBody(body);
+                Err(NoMemory)
+            }
+        },
+    }
+}

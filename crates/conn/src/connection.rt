@@ -1,0 +1,109 @@
+// One connection: its bytes come in any pieces, and its requests go out.
+ghost use Rattle.std.specs.Prelude.{◌≡◌, Ok, ◌≤◌, ◌<◌, ◌++◌, [], IfOk, ℕ, List, vec_len, IsTrue, MatchResult, drop};
+ghost use Rattle.conn.specs.Cut.{Event};
+
+use crate::advance::advance;
+use crate::request::Next;
+use crate::state::{Advance, State};
+use cta_site::NoMemory;
+use std::alloc::Global;
+
+/// The bytes of one connection, read as requests (RFC 9112). Contracts speak of it by `Stands conn fed given`: of all
+/// bytes that it was fed, in whatever pieces, those events are what was given out. After a call of `close` it stands
+/// for nothing any more.
+#[derive(Drop)]
+pub struct Conn {
+    limit: u64,
+    buf: Vec<u8>,
+    at: usize,
+    state: State,
+    ghost within: { at ≤ vec_len buf },
+}
+
+impl Conn {
+    ghost use Rattle.conn.specs.Stands.{Stands, Answers, IsOver, IsShut, UnlessLast, left, limit_of, rest_of};
+    ghost use Rattle.conn.specs.declared.request.Next.TheVariants as Next;
+
+    /// A connection that was fed nothing. A file may have `file_limit` bytes. It takes no memory.
+    pub fn new(alloc: Global, file_limit: u64) -> Conn
+        ensures stands { Stands result [] [] }
+        ensures limit { limit_of result ≡ file_limit }
+    {
+        Conn {
+            limit: file_limit,
+            buf: Vec::new(alloc),
+            at: 0,
+            state: State::AtHead,
+        }
+    }
+
+    fn is_over(&self) -> bool
+        ensures { IsTrue result → IsOver self.now.state }
+    {
+        matches!(self.state, State::Over | State::Shut)
+    }
+
+    // Drops the bytes that were read, where they are at least as many as the others: so no more is moved than was read since
+    // the last time.
+    fn drop_read(&mut self)
+        ensures rest { rest_of self.new ≡ rest_of self.old }
+        ensures state { self.new.state ≡ self.old.state }
+        ensures limit { limit_of self.new ≡ limit_of self.old }
+    {
+        let kept = self.buf.len() - self.at;
+        if self.at > 0 && self.at >= kept {
+            self.buf.copy_within(self.at.., 0);
+            self.buf.truncate(kept);
+            self.at = 0;
+        }
+    }
+
+    /// Takes the next piece, of any length. NoMemory leaves the connection as before. Once a refusal or a closing request was
+    /// given, or `close` was called, the piece is dropped. Its cost is the length of the piece, and over all pieces together
+    /// one move of each byte and the growing of the memory.
+    pub fn feed(&mut self, piece: &[u8]) -> Result<(), NoMemory>
+        ensures fed { (fed : List ℕ) (given : List Event) → Stands self.old fed given
+            → MatchResult result (λ _. Stands self.new (fed ++ piece.now) given) (λ _. Stands self.new fed given) }
+        ensures shut { IsShut self.old → IsShut self.new }
+        ensures limit { limit_of self.new ≡ limit_of self.old }
+    {
+        if self.is_over() {
+            return Ok(());
+        }
+        self.drop_read();
+        match self.buf.extend_from_slice(piece) {
+            Ok(()) => Ok(()),
+            Err(_) => Err(NoMemory),
+        }
+    }
+
+    /// What comes next. `Need` comes exactly where what is left of the bytes is unfinished and no 100 Continue is due. After
+    /// NoMemory the connection stands for the same bytes and gave the same, and the call can be made again. Each byte of a body
+    /// is looked at a fixed number of times; a head, a chunk line or a trailer that isn't whole is read again at the next call.
+    pub fn next(&mut self, alloc: Global) -> Result<Next, NoMemory>
+        ensures answers { (fed : List ℕ) (given : List Event) → Stands self.old fed given
+            → Answers self.new result fed given }
+        ensures shut { IsShut self.old → (result ≡ Ok Next.Closed) × IsShut self.new }
+        ensures less { IfOk result (λ n. UnlessLast n (left self.new < left self.old)) }
+        ensures limit { limit_of self.new ≡ limit_of self.old }
+    {
+        'steps: loop {
+            match advance(alloc, self.limit, &self.buf[self.at..], &mut self.state) {
+                Ok(Advance::Moved(used)) => self.at += used,
+                Ok(Advance::Gives(used, next)) => {
+                    self.at += used;
+                    return Ok(next);
+                }
+                Err(e) => return Err(e),
+            }
+        }
+    }
+
+    /// Closes the connection from here: nothing comes any more, also of what was fed before.
+    pub fn close(&mut self)
+        ensures shut { IsShut self.new }
+        ensures limit { limit_of self.new ≡ limit_of self.old }
+    {
+        self.state = State::Shut;
+    }
+}

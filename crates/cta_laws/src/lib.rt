@@ -1,0 +1,24 @@
+//! Laws of the archive: what holds of every legal history, whatever callers ask and drives report. Each law is the
+//! contract of a function with no parameters and an empty body, so that a law which no longer follows from the
+//! definitions is a failed check.
+#![tactic(auto)]
+
+mod jobs;
+mod lengths;
+mod localities;
+mod mounts;
+mod places;
+mod recalls;
+mod space;
+mod stages;
+
+pub use jobs::{claimed_once, claimer_is_open, ends_for_good, no_claim_after_end, stands_once};
+pub use lengths::{moments_never_fall, stays_short};
+pub use localities::{no_file_is_lost, tape_is_flushed, told_tape_is_flushed};
+pub use mounts::{
+    claims_nothing_after_end, keeps_quota, mounts_choice, open_mount_stays, tapes_are_mounted_once,
+};
+pub use places::{places_below, places_on_tape, places_stay};
+pub use recalls::{completes_once, recalled_is_resident, stale_after_end, stays_resident};
+pub use space::{buffer_has_room, tapes_have_room};
+pub use stages::finishes_after_start;

@@ -1,0 +1,5 @@
+pub mod Values
+pub mod Digits
+pub mod Heads
+pub mod Commas
+pub mod Queries

@@ -1,0 +1,108 @@
+-- The text of a reply (RFC 9112, 4 to 6), and the replies to bytes that are refused.
+use Rattle.std.specs.Prelude.{ℕ, Bool, true, false, List, [], ◌∷◌, ◌++◌, length, Option, Some, None, if◌then◌else◌, ◌==◌, codes, decimal}
+use Rattle.std.specs.Arc.{arc_value}
+use Rattle.httparse.specs.Ascii.{crlf_bytes}
+use Rattle.json.specs.Token.{Token, begin_object, end_object, key, string}
+use Rattle.json.specs.Print.{print}
+use Rattle.wire_http.specs.declared.refusal.WireRefusal.{WireRefusal}
+use Rattle.wire_http.specs.declared.refusal.WireRefusal.TheVariants.{BadHead, BadTarget, BadHost, TwoLengths, Coding, BadLength, TooLarge, BadChunk}
+use Rattle.wire_http.specs.declared.reply.Kind.{Kind}
+use Rattle.wire_http.specs.declared.reply.Kind.TheVariants.{Empty, Json, Bytes}
+use Rattle.wire_http.specs.declared.reply.Reply.{Reply}
+
+-- the phrase of each status code that the archive sends (RFC 9110, 15), empty for others
+abbrev pub phrase : ℕ → List ℕ
+phrase code =
+    if code == 200 then codes "OK"
+    else (if code == 201 then codes "Created"
+    else (if code == 400 then codes "Bad Request"
+    else (if code == 404 then codes "Not Found"
+    else (if code == 405 then codes "Method Not Allowed"
+    else (if code == 409 then codes "Conflict"
+    else (if code == 413 then codes "Payload Too Large"
+    else (if code == 500 then codes "Internal Server Error"
+    else (if code == 501 then codes "Not Implemented"
+    else (if code == 503 then codes "Service Unavailable"
+    else (if code == 507 then codes "Insufficient Storage"
+    else []))))))))))
+
+-- the first line: the version, the status code and its phrase
+abbrev pub status_line : ℕ → List ℕ
+status_line code = codes "HTTP/1.1 " ++ decimal code ++ codes " " ++ phrase code ++ crlf_bytes
+
+-- a field: its name, a colon and a blank, and its value
+abbrev pub field_line : List ℕ → List ℕ → List ℕ
+field_line name value = name ++ codes ": " ++ value ++ crlf_bytes
+
+-- the type of the body, where it has one
+abbrev pub type_lines : Kind → List ℕ
+type_lines Empty = []
+type_lines (Json text) = field_line (codes "Content-Type") (codes "application/json")
+type_lines (Bytes blob) = field_line (codes "Content-Type") (codes "application/octet-stream")
+
+-- the length of the body
+abbrev pub length_line : ℕ → List ℕ
+length_line len = field_line (codes "Content-Length") (decimal len)
+
+-- a field whose value there may be
+abbrev pub value_lines : List ℕ → Option (List ℕ) → List ℕ
+value_lines name None = []
+value_lines name (Some value) = field_line name value
+
+-- the word that the connection closes, where it does
+abbrev pub close_lines : Bool → List ℕ
+close_lines true = field_line (codes "Connection") (codes "close")
+close_lines false = []
+
+-- the body
+abbrev pub content : Kind → List ℕ
+content Empty = []
+content (Json text) = text
+content (Bytes blob) = arc_value blob
+
+-- the fields, in their order
+abbrev pub fields_text : Reply → List ℕ
+fields_text r =
+    type_lines r.kind ++ length_line (length (content r.kind)) ++ value_lines (codes "Location") r.location
+    ++ value_lines (codes "Allow") r.allow ++ close_lines r.close
+
+-- the first line, the fields, an empty line, and the body
+abbrev pub reply_text : Reply → List ℕ
+reply_text r = status_line r.code ++ fields_text r ++ crlf_bytes ++ content r.kind
+
+-- the body of an error is the JSON object with the text as its member `error`
+abbrev pub error_tokens : List ℕ → List Token
+error_tokens text = begin_object ∷ key (codes "error") ∷ string text ∷ end_object ∷ []
+
+abbrev pub error_body : List ℕ → List ℕ
+error_body text = print (error_tokens text)
+
+-- an error reply has that status and that body
+abbrev pub error_reply : ℕ → List ℕ → Bool → Reply
+error_reply code text close = record { code = code; kind = Json (error_body text); location = None; allow = None; close = close }
+
+-- the status of each refusal
+abbrev pub refusal_status : WireRefusal → ℕ
+refusal_status BadHead = 400
+refusal_status BadTarget = 400
+refusal_status BadHost = 400
+refusal_status TwoLengths = 400
+refusal_status Coding = 501
+refusal_status BadLength = 400
+refusal_status TooLarge = 413
+refusal_status BadChunk = 400
+
+-- the text of each refusal
+abbrev pub refusal_text : WireRefusal → List ℕ
+refusal_text BadHead = codes "bad head"
+refusal_text BadTarget = codes "bad target"
+refusal_text BadHost = codes "bad host"
+refusal_text TwoLengths = codes "two lengths"
+refusal_text Coding = codes "coding"
+refusal_text BadLength = codes "bad length"
+refusal_text TooLarge = codes "body too large"
+refusal_text BadChunk = codes "bad chunk"
+
+-- the reply to a refusal is an error reply after which the connection closes
+abbrev pub refusal_reply : WireRefusal → Reply
+refusal_reply r = error_reply (refusal_status r) (refusal_text r) true

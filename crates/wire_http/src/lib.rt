@@ -1,0 +1,22 @@
+//! HTTP/1.1 messages as the archive's front end reads and writes them: the head of a request, read from the bytes that
+//! follow the last message and refused by the first rule that it breaks, and the text of a reply.
+#![tactic(auto)]
+
+mod callers;
+mod fields;
+mod head;
+mod options;
+mod refusal;
+mod reply;
+mod rules;
+mod target;
+mod written;
+
+pub use head::{BodyLen, Head, HeadRead, read_head};
+pub use refusal::WireRefusal;
+pub use reply::{Kind, Reply, error_reply, refusal_reply};
+pub use rules::longest_body;
+pub use written::write_reply;
+
+#[cfg(test)]
+mod tests;

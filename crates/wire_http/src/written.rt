@@ -1,0 +1,155 @@
+// The text of a reply.
+ghost use Rattle.std.specs.Prelude.{◌≡◌, ◌++◌, length, IfOk, OnOk};
+ghost use Rattle.wire_http.specs.Reply.{phrase, field_line, status_line, type_lines, length_line, value_lines, close_lines, fields_text, content, reply_text};
+
+use crate::reply::{Kind, Reply};
+use blob::Blob;
+use cta_site::{NoMemory, Text};
+use itoa::Buffer;
+use std::alloc::Global;
+
+// The phrase of a status code.
+fn phrase(code: u16) -> &'static str
+    ensures { result.now ≡ phrase code }
+{
+    match code {
+        200 => "OK",
+        201 => "Created",
+        400 => "Bad Request",
+        404 => "Not Found",
+        405 => "Method Not Allowed",
+        409 => "Conflict",
+        413 => "Payload Too Large",
+        500 => "Internal Server Error",
+        501 => "Not Implemented",
+        503 => "Service Unavailable",
+        507 => "Insufficient Storage",
+        _ => "",
+    }
+}
+
+fn put(out: &mut Vec<u8>, bytes: &[u8]) -> Result<(), NoMemory>
+    ensures { OnOk result (out.new.items ≡ out.old.items ++ bytes.now) }
+{
+    match out.extend_from_slice(bytes) {
+        Ok(()) => Ok(()),
+        Err(_) => Err(NoMemory),
+    }
+}
+
+fn put_status(out: &mut Vec<u8>, code: u16) -> Result<(), NoMemory>
+    ensures { OnOk result (out.new.items ≡ out.old.items ++ status_line code) }
+{
+    let mut digits = Buffer::new();
+    put(out, b"HTTP/1.1 ")?;
+    put(out, digits.format(code).as_bytes())?;
+    put(out, b" ")?;
+    put(out, phrase(code).as_bytes())?;
+    put(out, b"\r\n")
+}
+
+fn put_field(out: &mut Vec<u8>, name: &[u8], value: &[u8]) -> Result<(), NoMemory>
+    ensures { OnOk result (out.new.items ≡ out.old.items ++ field_line name.now value.now) }
+{
+    put(out, name)?;
+    put(out, b": ")?;
+    put(out, value)?;
+    put(out, b"\r\n")
+}
+
+fn put_type(out: &mut Vec<u8>, kind: &Kind) -> Result<(), NoMemory>
+    ensures { OnOk result (out.new.items ≡ out.old.items ++ type_lines kind.now) }
+{
+    match kind {
+        Kind::Empty => Ok(()),
+        Kind::Json(_) => put_field(out, b"Content-Type", b"application/json"),
+        Kind::Bytes(_) => put_field(out, b"Content-Type", b"application/octet-stream"),
+    }
+}
+
+// How many bytes the body has.
+fn content_len(kind: &Kind) -> u64
+    ensures { result ≡ length (content kind.now) }
+{
+    match kind {
+        Kind::Empty => 0,
+        Kind::Json(text) => text.as_bytes().len() as u64,
+        Kind::Bytes(blob) => blob.sum().len,
+    }
+}
+
+fn put_length(out: &mut Vec<u8>, len: u64) -> Result<(), NoMemory>
+    ensures { OnOk result (out.new.items ≡ out.old.items ++ length_line len) }
+{
+    let mut digits = Buffer::new();
+    put_field(out, b"Content-Length", digits.format(len).as_bytes())
+}
+
+fn put_value(out: &mut Vec<u8>, name: &[u8], value: &Option<Text>) -> Result<(), NoMemory>
+    ensures { OnOk result (out.new.items ≡ out.old.items ++ value_lines name.now value.now) }
+{
+    match value {
+        None => Ok(()),
+        Some(text) => put_field(out, name, text.as_bytes()),
+    }
+}
+
+fn put_close(out: &mut Vec<u8>, close: bool) -> Result<(), NoMemory>
+    ensures { OnOk result (out.new.items ≡ out.old.items ++ close_lines close) }
+{
+    if close {
+        put_field(out, b"Connection", b"close")
+    } else {
+        Ok(())
+    }
+}
+
+fn put_blob(out: &mut Vec<u8>, blob: &Blob) -> Result<(), NoMemory>
+    ensures { OnOk result (out.new.items ≡ out.old.items ++ blob.now) }
+{
+    let at = out.len();
+    let Some(end) = at.checked_add(blob.sum().len as usize) else {
+        return Err(NoMemory);
+    };
+    match out.resize(end, 0) {
+        Ok(()) => {
+            blob.piece(0, &mut out[at..]);
+            Ok(())
+        }
+        Err(_) => Err(NoMemory),
+    }
+}
+
+fn put_content(out: &mut Vec<u8>, kind: &Kind) -> Result<(), NoMemory>
+    ensures { OnOk result (out.new.items ≡ out.old.items ++ content kind.now) }
+{
+    match kind {
+        Kind::Empty => Ok(()),
+        Kind::Json(text) => put(out, text.as_bytes()),
+        Kind::Bytes(blob) => put_blob(out, blob),
+    }
+}
+
+fn put_fields(out: &mut Vec<u8>, reply: &Reply) -> Result<(), NoMemory>
+    ensures { OnOk result (out.new.items ≡ out.old.items ++ fields_text reply.now) }
+{
+    put_type(out, &reply.kind)?;
+    put_length(out, content_len(&reply.kind))?;
+    put_value(out, b"Location", &reply.location)?;
+    put_value(out, b"Allow", &reply.allow)?;
+    put_close(out, reply.close)
+}
+
+/// The bytes of a reply (RFC 9112, 4 to 6): `HTTP/1.1`, the status code and its phrase; then of `Content-Type`,
+/// `Content-Length` (always), `Location`, `Allow` and `Connection: close`, in this order, those that the reply has;
+/// an empty line and the body. NoMemory leaves nothing. Its cost is the length of the text.
+pub fn write_reply(alloc: Global, reply: &Reply) -> Result<Vec<u8>, NoMemory>
+    ensures { IfOk result (λ text. text.items ≡ reply_text reply.now) }
+{
+    let mut out = Vec::new(alloc);
+    put_status(&mut out, reply.code)?;
+    put_fields(&mut out, reply)?;
+    put(&mut out, b"\r\n")?;
+    put_content(&mut out, &reply.kind)?;
+    Ok(out)
+}
