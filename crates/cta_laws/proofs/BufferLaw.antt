@@ -34,7 +34,8 @@ use Rattle.cta_laws.proofs.EndLaw.{job_among}
 use Rattle.cta_laws.proofs.QuotaLaw.{same_way}
 use Rattle.cta_laws.proofs.LengthLaw.{not_unknown, ltb_false}
 use Rattle.cta_laws.proofs.LostLaw.{live_cases}
-use Rattle.cta_laws.proofs.Sums.{total, total_is, total_append, size_in, size_is, size_older, IsOfFile, claimed_of_file, file_size, took, gave, if_asked, if_zero, claimed_step_total}
+use Rattle.cta_laws.proofs.Sums.{total, total_is, total_append, size_in, size_is, size_older, IsOfFile, claimed_of_file, file_size}
+use Rattle.cta_laws.proofs.Loads.{took, gave, if_asked, if_zero, claimed_step_total}
 use Rattle.cta_laws.proofs.CapacityLaw.{taken_size}
 
 -- ---- the shortest prefix frees enough

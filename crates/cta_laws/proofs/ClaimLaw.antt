@@ -61,11 +61,10 @@ claim_cases _ a m before j = λ e. inl e
 
 -- ---- a Claim names jobs that no mount claims
 
-IsUnclaimed : History → Job → Type 0
+abbrev pub IsUnclaimed : History → Job → Type 0
 IsUnclaimed h j = is_none (claimer_of h j) ≡ true
 
 stands_unclaimed : (site : Site) (h : History) (way : Direction) (key : ℕ) (j : Job) → stands_in site h way key j ≡ true → IsUnclaimed h j
-unfolding IsUnclaimed
 stands_unclaimed site h way key j e = (and_parts (is_none (claimer_of h j)) _ (and_parts (same_direction way (direction_of j)) _ e).1).0
 
 queue_unclaimed : (site : Site) (h : History) (way : Direction) (key : ℕ) → AllOf (IsUnclaimed h) (queue_of site h way key)
@@ -88,8 +87,7 @@ found_none test (k ∷ ms) m none there e =
           ]
     ]
 
-unclaimed_by : (h : History) (j : Job) (m : ℕ) → IsUnclaimed h j → is_open h m ≡ true → claims h m j ≡ true → ⊥
-unfolding IsUnclaimed
+pub unclaimed_by : (h : History) (j : Job) (m : ℕ) → IsUnclaimed h j → is_open h m ≡ true → claims h m j ≡ true → ⊥
 unclaimed_by h j m none op e = found_none (λ k. has_job j (item_jobs (claimed_items h k))) (open_mounts h) m none op e
 
 -- ---- the law

@@ -14,8 +14,11 @@ mod ResidentLaw
 mod MountLaw
 mod ClaimLaw
 mod Sums
+mod Loads
 mod CapacityLaw
 mod BufferLaw
 mod StageLaw
 mod RangeLaw
 mod StandLaw
+mod KeyLaw
+mod JobLaw

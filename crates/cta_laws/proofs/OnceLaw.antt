@@ -1,6 +1,6 @@
 -- At most one entry completes a recall.
-use Rattle.std.proofs.Common.{◌≡◌, ℕ, ◌+◌, ◌≤◌, ◌⊎◌, inl, inr, List, [], ◌∷◌, Bool, true, false, ◌&&◌, not, refl, subst, arith, length}
-use Rattle.std.specs.Prelude.{Option, Some, None, option_map, if◌then◌else◌, ◌==◌, bytes_eq, filter}
+use Rattle.std.proofs.Common.{◌≡◌, ◌∙◌, ℕ, ◌+◌, ◌≤◌, ◌⊎◌, inl, inr, List, [], ◌∷◌, Bool, true, false, ◌&&◌, not, refl, subst, arith, length}
+use Rattle.std.specs.Prelude.{Option, Some, None, option_map, if◌then◌else◌, ◌==◌, bytes_eq}
 use Rattle.std.proofs.lemmas.Bool.{and_parts, eqb-true}
 use Rattle.cta_site.specs.declared.site.Site.{Site}
 use Rattle.cta_model.specs.declared.entries.Entry.{Entry}
@@ -47,18 +47,24 @@ goes_on_ended site h e f r b d (ask.Stage who files) a = subscribed_ended b (wai
 goes_on_ended site h e f r b d (ask.Repack who v) a = subscribed_ended b (waits_for site h (ask.Repack who v) f) (length h + 1) r d
 goes_on_ended site h e f r b d (ask.Cancel who id paths) a =
     elim (has_text (path_of h f) paths.items) as (λ t. is_number b (birth_in (if t then unsubscribed id r else Some r)) ≡ false)
-    [ true ↦ left_ended b r.birth (filter (λ s. not (s == id)) r.waiting) d | false ↦ d ]
-goes_on_ended site h e f r b d (ask.DropStage who id) a = left_ended b r.birth (filter (λ s. not (s == id)) r.waiting) d
+    [ true ↦ left_ended b r.birth _ d | false ↦ d ]
+goes_on_ended site h e f r b d (ask.DropStage who id) a = left_ended b r.birth _ d
 goes_on_ended site h e f r b d (ask.Recalled m job) (answer.Arrived fate.Done) = unless_ended b (same_job job (recall_job r.birth f)) r d
 goes_on_ended site h e f r b d (ask.Failed m fault charged returned) a = unless_ended b (is_last_charge site h (ask.Failed m fault charged returned) (recall_job r.birth f)) r d
 goes_on_ended site h e f r b d (ask.Delete who path) a = unless_ended b (bytes_eq path (path_of h f)) r d
 goes_on_ended site h e f r b d (ask.TapeState who v s) a = unless_ended b (is_empty (places_of site (e ∷ h) f)) r d
 goes_on_ended site h e f r b d _ a = d
 
+born_ended : (b n : ℕ) (t : Bool) (r : Recall) → r.birth ≡ n → (b == n) ≡ false → is_number b (birth_in (if t then Some r else None)) ≡ false
+born_ended b n true r is d = rw is d
+born_ended b n false r is d = refl
+
+born_now : (b n : ℕ) (t : Bool) (r : Recall) → r.birth ≡ n → is_number b (birth_in (if t then Some r else None)) ≡ true → b ≡ n
+born_now b n true r is y = eqb-true b r.birth y ∙ is
+born_now b n false r is y = absurd (cc)
+
 after_ended : (site : Site) (h : History) (e : Entry) (f b : ℕ) → b ≤ length h → (o : Option Recall) → is_number b (birth_in o) ≡ false → is_number b (birth_in (recall_after site h e f o)) ≡ false
-after_ended site h e f b low None d =
-    elim (bears_recall site h e.ask f) as (λ t. is_number b (birth_in (if t then Some (record { birth = length h + 1; waiting = (length h + 1) ∷ [] }) else None)) ≡ false)
-    [ true ↦ not_next b (length h) low | false ↦ refl ]
+after_ended site h e f b low None d = born_ended b (length h + 1) (bears_recall site h e.ask f) _ refl (not_next b (length h) low)
 after_ended site h e f b low (Some r) d = goes_on_ended site h e f r b d e.ask e.answer
 
 -- once it has ended, it never lives again
@@ -68,9 +74,7 @@ stays_ended site h e f b low d = after_ended site h e f b low (live_recall site 
 -- ---- what lives was born before
 
 born_after : (site : Site) (h : History) (e : Entry) (f b : ℕ) (o : Option Recall) → is_number b (birth_in o) ≡ false → is_number b (birth_in (recall_after site h e f o)) ≡ true → b ≤ length h + 1
-born_after site h e f b None d =
-    elim (bears_recall site h e.ask f) as (λ t. is_number b (birth_in (if t then Some (record { birth = length h + 1; waiting = (length h + 1) ∷ [] }) else None)) ≡ true → b ≤ length h + 1)
-    [ true ↦ λ y. (let x : b ≡ length h + 1 = eqb-true b (length h + 1) y in omega arith) | false ↦ λ y. absurd (cc) ]
+born_after site h e f b None d = λ y. (let x : b ≡ length h + 1 = born_now b (length h + 1) (bears_recall site h e.ask f) _ refl y in omega arith)
 born_after site h e f b (Some r) d = λ y. (let z : is_number b (birth_in (recall_goes_on site h e f r e.ask e.answer)) ≡ false = goes_on_ended site h e f r b d e.ask e.answer in absurd (cc))
 
 pub born_before : (site : Site) (h : History) (f b : ℕ) → is_number b (birth_in (live_recall site h f)) ≡ true → b ≤ length h

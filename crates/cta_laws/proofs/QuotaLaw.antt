@@ -53,7 +53,7 @@ first_all P (x ∷ xs) all c e = better_all P x (first_of xs) all.0 (λ k q. fir
 HasQuota : Site → History → Candidate → Type 0
 HasQuota site h c = has_quota_left site h c.direction (vo_of_pool site (pool_of_tape site c.tape)) ≡ true
 
-find_passes : (test : ℕ → Bool) (ns : List ℕ) (v : ℕ) → find test ns ≡ Some v → test v ≡ true
+pub find_passes : (test : ℕ → Bool) (ns : List ℕ) (v : ℕ) → find test ns ≡ Some v → test v ≡ true
 find_passes test [] v e = absurd (cc)
 find_passes test (n ∷ ns) v e =
     elim (bool_cases (test n)) [
@@ -61,7 +61,7 @@ find_passes test (n ∷ ns) v e =
       | inr t ↦ find_passes test ns v (rw t at e)
     ]
 
-or_found : (a b : Option ℕ) (v : ℕ) → option_or a b ≡ Some v → (a ≡ Some v) ⊎ (b ≡ Some v)
+pub or_found : (a b : Option ℕ) (v : ℕ) → option_or a b ≡ Some v → (a ≡ Some v) ⊎ (b ≡ Some v)
 or_found None b v e = inr e
 or_found (Some x) b v e = inl e
 
@@ -131,7 +131,7 @@ tapes_all P site h t d tapes way (k ∷ ks) =
     (if_all (λ c. P c.direction c.tape) (is_warranted site h t way k && fits_drive site h t d way k) (candidate_by site h way k (queue_of site h way k) (tape_for site h t d way k (queue_of site h way k))) (by_tape P site h way k (queue_of site h way k) (tape_for site h t d way k (queue_of site h way k)) (tapes way k (queue_of site h way k))))
     (tapes_all P site h t d tapes way ks)
 
-choice_all : (P : Direction → ℕ → Type 0) (site : Site) (h : History) (t d : ℕ) → ((way : Direction) (key : ℕ) (q : List Job) (v : ℕ) → tape_for site h t d way key q ≡ Some v → P way v) → (c : Candidate) → mount_choice site h t d ≡ Some c → P c.direction c.tape
+pub choice_all : (P : Direction → ℕ → Type 0) (site : Site) (h : History) (t d : ℕ) → ((way : Direction) (key : ℕ) (q : List Job) (v : ℕ) → tape_for site h t d way key q ≡ Some v → P way v) → (c : Candidate) → mount_choice site h t d ≡ Some c → P c.direction c.tape
 choice_all P site h t d tapes c e = first_all (λ c. P c.direction c.tape) (candidates site h t d) (all_append (λ c. P c.direction c.tape) _ _ (tapes_all P site h t d tapes direction.Archive _) (tapes_all P site h t d tapes direction.Retrieve _)) c e
 
 not_true : (b : Bool) → not b ≡ true → b ≡ false
@@ -161,11 +161,10 @@ tape_free site h t d direction.Retrieve key q v = λ e.
 
 -- ---- an accepted Next is the choice
 
-Chosen : Option Candidate → ℕ → Answer → Type 0
+abbrev pub Chosen : Option Candidate → ℕ → Answer → Type 0
 Chosen o n a = (c : Candidate) × (o ≡ Some c) × (a ≡ answer.Mounted n c.direction c.tape)
 
 chosen_by : (heavy none down busy : Bool) (n : ℕ) (o : Option Candidate) (a : Answer) → a ≡ refuse refusal.HistoryFull heavy (refuse refusal.NoDrive none (if down then answer.DriveDown else if busy then answer.DriveBusy else mounted n o)) → is_accepted a ≡ true → Chosen o n a
-unfolding Chosen
 chosen_by true none down busy n o a e y = absurd (cc)
 chosen_by false true down busy n o a e y = absurd (cc)
 chosen_by false false true busy n o a e y = absurd (cc)
@@ -179,17 +178,15 @@ next_chosen site h t d a e y = chosen_by (is_too_heavy site h (ask.Next d) (next
 moment_after : (h : History) (t : ℕ) → last_moment h ≤ t → moment_of h t ≡ t
 moment_after h t low = omega arith
 
-choice_at : (site : Site) (h : History) (e : Entry) (d : ℕ) → IsNext site h e → e.ask ≡ ask.Next d → Chosen (mount_choice site h e.at d) (length h + 1) e.answer
+pub choice_at : (site : Site) (h : History) (e : Entry) (d : ℕ) → IsNext site h e → e.ask ≡ ask.Next d → Chosen (mount_choice site h e.at d) (length h + 1) e.answer
 choice_at site h e d next is =
     let answered : e.answer ≡ answer_of site h e.at (ask.Next d) = next.answered ∙ ap (answer_of site h e.at) is in
     subst (λ (t : ℕ). Chosen (mount_choice site h t d) (length h + 1) e.answer) (moment_after h e.at next.later) (next_chosen site h e.at d e.answer answered next.accepted)
 
 pub mounts_choice : MountsChoice
-unfolding Chosen
 mounts_choice site newer h e d legal is = choice_at site h e d (legal_older site newer (e ∷ h) legal).1 is
 
 pub mounted_tape : (site : Site) (h : History) (e : Entry) (d m : ℕ) (w : Direction) (v : ℕ) → IsNext site h e → e.ask ≡ ask.Next d → e.answer ≡ answer.Mounted m w v → is_mounted h v ≡ false
-unfolding Chosen
 mounted_tape site h e d m w v next ek ea =
     let chosen : Chosen (mount_choice site h e.at d) (length h + 1) e.answer = choice_at site h e d next ek in
     let same : answer.Mounted (length h + 1) chosen.0.direction chosen.0.tape ≡ answer.Mounted m w v = sym chosen.2 ∙ ea in
@@ -244,7 +241,7 @@ newest_within site h way vo n x ms count room low =
     ]
 
 quota_step : (site : Site) (h : History) (e : Entry) (way : Direction) (vo : ℕ) (k : Ask) (a : Answer) → e.ask ≡ k → e.answer ≡ a → IsNext site h e → length (passing (is_of_vo site way vo) h (open_mounts h)) ≤ quota_of site way vo → length (passing (is_of_vo site way vo) (e ∷ h) (open_after k a (length h + 1) (open_mounts h))) ≤ quota_of site way vo
-unfolding passing is_of_vo Chosen
+unfolding passing is_of_vo
 quota_step site h e way vo (ask.Next d) (answer.Mounted m w v) ek ea next low =
     let newest : mount_of (e ∷ h) (length h + 1) ≡ Some (record { drive = d; direction = w; tape = v }) = mount_newest e h ∙ ap (λ (k : Ask). mount_in k e.answer) ek ∙ ap (λ (a : Answer). mount_in (ask.Next d) a) ea in
     let chosen : Chosen (mount_choice site h e.at d) (length h + 1) e.answer = choice_at site h e d next ek in

@@ -63,7 +63,7 @@ number_some f (Some n) e = refl
 same_path : (p q : List ℕ) → bytes_eq p q ≡ true → p ≡ q
 same_path p q e = (bytes_eq-Decides p q).0 e
 
-not_some : (b : Bool) (r : Recall) → is_some (lives_unless b r) ≡ true → b ≡ false
+pub not_some : (b : Bool) (r : Recall) → is_some (lives_unless b r) ≡ true → b ≡ false
 not_some true r e = absurd (cc)
 not_some false r e = refl
 
@@ -105,7 +105,7 @@ recall_live_step : (site : Site) (h : History) (e : Entry) (f : ℕ) (o : Option
 recall_live_step site h e f None next was on =
     elim (bool_cases (bears_recall site h e.ask f)) [
       | inl b ↦ (let live : is_live h f ≡ true = born_live site h e.ask f b in live_by e h f live (named_born site h f (length h + 1) e.ask b live))
-      | inr d ↦ absurd (not_born (bears_recall site h e.ask f) (record { birth = length h + 1; waiting = (length h + 1) ∷ [] }) d on)
+      | inr d ↦ absurd (not_born (bears_recall site h e.ask f) _ d on)
     ]
 recall_live_step site h e f (Some r) next was on =
     let live : is_live h f ≡ true = was refl in
@@ -118,7 +118,7 @@ recall_live site (e ∷ h) legal f on = recall_live_step site h e f (live_recall
 
 -- ---- a completed recall
 
-birth_some : (b : ℕ) (o : Option Recall) → is_number b (birth_in o) ≡ true → is_some o ≡ true
+pub birth_some : (b : ℕ) (o : Option Recall) → is_number b (birth_in o) ≡ true → is_some o ≡ true
 birth_some b None e = absurd (cc)
 birth_some b (Some r) e = refl
 

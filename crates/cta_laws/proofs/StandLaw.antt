@@ -10,14 +10,15 @@ use Rattle.cta_model.specs.declared.asks.Fate.TheVariants as fate
 use Rattle.cta_model.specs.declared.answers.Answer.{Answer}
 use Rattle.cta_model.specs.declared.answers.Answer.TheVariants as answer
 use Rattle.cta_model.specs.declared.asks.Job.{Job}
+use Rattle.cta_model.specs.declared.asks.Direction.{Direction}
 use Rattle.cta_model.specs.History.{History, has_number, is_number}
 use Rattle.cta_model.specs.Files.{copies_of_file}
-use Rattle.cta_model.specs.Mounts.{same_job, has_job, item_jobs, claimed_items, open_mounts}
+use Rattle.cta_model.specs.Mounts.{claimer_of, is_open, same_job, has_job, item_jobs, claimed_items, open_mounts}
 use Rattle.cta_model.specs.Recalls.{Recall, live_recall, recall_after, recall_goes_on, bears_recall}
 use Rattle.cta_model.specs.Jobs.{jobs_born, newly_born, born_files, born_copies, born_copy, may_bear, live_birth, live_jobs, is_live_job, archive_job, archive_birth, archive_after, bears_archive, ends_archive}
-use Rattle.cta_model.specs.Queues.{stands_in}
+use Rattle.cta_model.specs.Queues.{queue_of, stands_in}
 use Rattle.cta_model.specs.Legal.{IsLegal}
-use Rattle.cta_laws.specs.Jobs.{ClaimerIsOpen, count_job, StandsOnce}
+use Rattle.cta_laws.specs.Jobs.{claims, count_job}
 use Rattle.cta_laws.proofs.Tests.{bool_cases, or_left, or_right}
 use Rattle.cta_laws.proofs.OnceLaw.{same_job_eq, birth_in, goes_on_ended}
 use Rattle.cta_laws.proofs.EndLaw.{live_before, job_stays_ended}
@@ -26,7 +27,7 @@ use Rattle.cta_laws.proofs.RangeLaw.{InRange, job_range}
 
 -- ---- the mount that claims a job
 
-found : (test : ℕ → Bool) (ms : List ℕ) (m : ℕ) → find test ms ≡ Some m → (has_number m ms ≡ true) × (test m ≡ true)
+pub found : (test : ℕ → Bool) (ms : List ℕ) (m : ℕ) → find test ms ≡ Some m → (has_number m ms ≡ true) × (test m ≡ true)
 found test [] m e = absurd (cc)
 found test (k ∷ ms) m e =
     elim (bool_cases (test k)) [
@@ -34,7 +35,7 @@ found test (k ∷ ms) m e =
       | inr miss ↦ (let rest : (has_number m ms ≡ true) × (test m ≡ true) = found test ms m (rw miss at e) in (or_right (m == k) _ rest.0, rest.1))
     ]
 
-pub claimer_is_open : ClaimerIsOpen
+pub claimer_is_open : (h : History) (j : Job) (m : ℕ) → claimer_of h j ≡ Some m → (is_open h m ≡ true) × (claims h m j ≡ true)
 claimer_is_open h j m e = found (λ k. has_job j (item_jobs (claimed_items h k))) (open_mounts h) m e
 
 -- ---- counts
@@ -225,7 +226,7 @@ born_once site (e ∷ h) legal j live =
     highest : j.file ≤ length (e ∷ h) → j.file ≤ length h + 1
     highest x = omega arith
 
-pub stands_once : StandsOnce
+pub stands_once : (site : Site) (h : History) → IsLegal site h → (j : Job) → is_live_job site h j ≡ true → (way : Direction) (key : ℕ) → count_job j (queue_of site h way key) ≡ (if stands_in site h way key j then 1 else 0)
 stands_once site h legal j live way key =
     let once : count_job j (live_jobs site h) ≡ 1 = count_filter j (is_live_job site h) (jobs_born site h) ∙ here (is_live_job site h j) live in
     count_filter j (stands_in site h way key) (live_jobs site h) ∙ ap (λ (n : ℕ). if stands_in site h way key j then n else 0) once

@@ -1,13 +1,13 @@
 -- Laws of jobs.
-use Rattle.std.specs.Prelude.{ℕ, ◌+◌, ◌≡◌, List, [], ◌∷◌, ◌++◌, Some, IsSome, Bool, true, false, if◌then◌else◌}
+use Rattle.std.specs.Prelude.{ℕ, ◌+◌, ◌≡◌, ◌<◌, length, List, [], ◌∷◌, ◌++◌, Some, IsSome, Bool, true, false, if◌then◌else◌, ◌⊎◌}
 use Rattle.cta_site.specs.declared.site.Site.{Site}
 use Rattle.cta_model.specs.declared.entries.Entry.{Entry}
 use Rattle.cta_model.specs.declared.asks.Job.{Job}
 use Rattle.cta_model.specs.History.{History}
-use Rattle.cta_model.specs.Mounts.{is_open, same_job, has_job, item_jobs, claimed_items, claimer_of}
+use Rattle.cta_model.specs.Mounts.{is_open, same_job, has_job, item_jobs, claimed_items}
 use Rattle.cta_model.specs.declared.asks.Direction.{Direction}
 use Rattle.cta_model.specs.Jobs.{is_live_job, job_end}
-use Rattle.cta_model.specs.Queues.{queue_of, stands_in}
+use Rattle.cta_model.specs.Queues.{queue_of, direction_of, key_of}
 use Rattle.cta_model.specs.Stages.{claim_names}
 use Rattle.cta_model.specs.Legal.{IsLegal}
 
@@ -30,17 +30,31 @@ ClaimedOnce =
     (site : Site) (h : History) → IsLegal site h → (j : Job) (m n : ℕ) → is_open h m ≡ true → claims h m j ≡ true → is_open h n ≡ true → claims h n j ≡ true
     → m ≡ n
 
--- the mount that claims a job is open
-abbrev pub ClaimerIsOpen : Type 0
-ClaimerIsOpen = (h : History) (j : Job) (m : ℕ) → claimer_of h j ≡ Some m → (is_open h m ≡ true) × (claims h m j ≡ true)
-
 -- how often a job is in a list
 abbrev pub count_job : Job → List Job → ℕ
 count_job j [] = 0
 count_job j (k ∷ ks) = (if same_job j k then 1 else 0) + count_job j ks
 
--- in a legal history a live job is once in the queue of its direction and key where no open mount claims it, and in no other queue
-abbrev pub StandsOnce : Type 0
-StandsOnce =
-    (site : Site) (h : History) → IsLegal site h → (j : Job) → is_live_job site h j ≡ true → (way : Direction) (key : ℕ)
-    → count_job j (queue_of site h way key) ≡ (if stands_in site h way key j then 1 else 0)
+-- a job is in the queue of its direction and key, once, and in no other; and no open mount claims it
+pub record IsQueued (site : Site) (h : History) (j : Job) : Type 0 where
+  pub key : ℕ
+  pub is_key : key_of site h j ≡ Some key
+  pub once : count_job j (queue_of site h (direction_of j) key) ≡ 1
+  pub in_no_other : (way : Direction) (k : ℕ) → has_job j (queue_of site h way k) ≡ true → (way ≡ direction_of j) × (k ≡ key)
+  pub unclaimed : (m : ℕ) → is_open h m ≡ true → claims h m j ≡ false
+
+-- one open mount claims a job; and the job is in no queue
+pub record IsClaimed (site : Site) (h : History) (j : Job) : Type 0 where
+  pub mount : ℕ
+  pub is_open_mount : is_open h mount ≡ true
+  pub claimed : claims h mount j ≡ true
+  pub by_no_other : (m : ℕ) → is_open h m ≡ true → claims h m j ≡ true → m ≡ mount
+  pub in_no_queue : (way : Direction) (k : ℕ) → has_job j (queue_of site h way k) ≡ false
+
+-- in a legal history a live job is in one queue, once, or one open mount claims it
+abbrev pub IsQueuedOrClaimed : Type 0
+IsQueuedOrClaimed = (site : Site) (h : History) → IsLegal site h → (j : Job) → is_live_job site h j ≡ true → IsQueued site h j ⊎ IsClaimed site h j
+
+-- in a legal history the key of a recall is a tape of the site
+abbrev pub RecallKeyIsTape : Type 0
+RecallKeyIsTape = (site : Site) (h : History) → IsLegal site h → (j : Job) (key : ℕ) → j.copy ≡ 0 → key_of site h j ≡ Some key → key < length site.tapes.items

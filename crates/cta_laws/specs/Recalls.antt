@@ -37,7 +37,7 @@ StaleAfterEnd =
     (site : Site) (newer h : History) (e : Entry) → IsLegal site (e ∷ newer ++ h) → (m : ℕ) (j : Job) → IsSome (job_end site h j) → e.ask ≡ ask.Recalled m j
     → e.answer ≡ answer.Arrived fate.Stale
 
--- in a legal history the file of a completed recall is live and resident from that entry on
+-- in a legal history the file of a recall is resident after the entry that completes the recall
 abbrev pub RecalledIsResident : Type 0
 RecalledIsResident =
     (site : Site) (h : History) (e : Entry) → IsLegal site (e ∷ h) → (birth f : ℕ) → completes e.ask e.answer (recall_job birth f) ≡ true

@@ -1,5 +1,5 @@
 // Laws of jobs.
-ghost use Rattle.cta_laws.specs.Jobs.{ClaimedOnce, ClaimerIsOpen, EndsForGood, NoClaimAfterEnd, StandsOnce};
+ghost use Rattle.cta_laws.specs.Jobs.{ClaimedOnce, EndsForGood, IsQueuedOrClaimed, NoClaimAfterEnd, RecallKeyIsTape};
 
 /// A job that has ended is live no more. This project's own.
 pub fn ends_for_good()
@@ -16,13 +16,13 @@ pub fn claimed_once()
     ensures { ClaimedOnce }
 {}
 
-/// The mount that claims a job is open. This project's own.
-pub fn claimer_is_open()
-    ensures { ClaimerIsOpen }
+/// A live job that no open mount claims is in the queue of its direction and key, once, and in no other; one that is claimed is
+/// claimed by one open mount, and in no queue. This project's own.
+pub fn is_queued_or_claimed()
+    ensures { IsQueuedOrClaimed }
 {}
 
-/// A live job that no open mount claims is in the queue of its direction and key, once, and in no other; one that is
-/// claimed is in no queue. This project's own.
-pub fn stands_once()
-    ensures { StandsOnce }
+/// The key of a recall is a tape of the site. This project's own.
+pub fn recall_key_is_tape()
+    ensures { RecallKeyIsTape }
 {}

@@ -11,7 +11,7 @@ pub fn stale_after_end()
     ensures { StaleAfterEnd }
 {}
 
-/// The file of a recall that is completed is resident from then on. This project's own.
+/// The file of a recall is resident after the entry that completes the recall. This project's own.
 pub fn recalled_is_resident()
     ensures { RecalledIsResident }
 {}
