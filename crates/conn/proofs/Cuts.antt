@@ -1,17 +1,17 @@
 -- The messages of a connection are the same in every cut.
-use Rattle.std.proofs.Common.{◌≡◌, ◌≢◌, ◌⊎◌, ◌<◌, ◌≤◌, ◌+◌, ◌-◌, ℕ, Bool, true, false, List, [], ◌∷◌, ◌++◌, length, take, drop, refl, sym, ap, ap₂, ◌∙◌, append_assoc, arith, inl, inr, length-append}
-use Rattle.std.specs.Prelude.{Option, Some, None}
+use Rattle.std.proofs.Common.{◌≡◌, ◌⊎◌, ◌≤◌, ◌+◌, ◌-◌, ℕ, true, false, List, [], ◌∷◌, ◌++◌, length, take, refl, sym, ap, ap₂, ◌∙◌, append_assoc, arith, inl, inr, length-append}
+use Rattle.std.specs.Prelude.{Some, None}
 use Rattle.std.specs.List.{AllByRecursion}
-use Rattle.std.proofs.lemmas.List.{append_cancel_left, append-nil, take-append-drop, length-take}
+use Rattle.std.proofs.lemmas.List.{append_cancel_left, append-nil}
 use Rattle.std.proofs.Math.Seq.{take-append-add}
 use Rattle.std.proofs.lemmas.List.Elements.{All-from_recursion}
 use Rattle.httparse.specs.Ascii.{crlf_bytes}
-use Rattle.httparse.specs.Grammar.{RequestHead, IsRequestHead, print_request, ReadsRequest, ChunkLine, IsChunkLine, print_chunk_line, chunk_size, HasNoChunkLine, ReadsChunkLine, Field, LineEnd, print_section, ReadsSection, HasNoSection}
-use Rattle.httparse.proofs.GrammarLemmas.{request_unique, section_unique}
+use Rattle.httparse.specs.Grammar.{RequestHead, print_request, ChunkLine, IsChunkLine, print_chunk_line, chunk_size, HasNoChunkLine, Field, LineEnd, print_section}
+use Rattle.httparse.proofs.GrammarLemmas.{request_unique}
 use Rattle.httparse.proofs.ChunkLemmas.{chunk_line_unique}
 use Rattle.wire_http.specs.Head.{refusal_of, closes, most_body}
-use Rattle.conn.specs.Message.{Chunk, chunk_text, chunks_text, content, IsChunk, IsLast, IsTrailer, Body, Plain, InChunks, body_text, Message, message_text, messages_text, IsHead, IsBody, IsMessage}
-use Rattle.conn.specs.Cut.{Part, InPlain, AtLine, InData, AtTrailer, part_text, IsPart, IsMore, IsOpenPart, IsBadPart, IsBadLine, IsBadEnd, IsBadTrailer, Tail, tail_text, IsTail, OpenHead, OpenBody, NoHead, Breaks, NoBody, Closing, IsKept, Cut, IsLinkCut}
+use Rattle.conn.specs.Message.{Chunk, chunks_text, content, IsChunk, IsLast, IsTrailer, Body, Plain, InChunks, body_text, Message, message_text, messages_text, IsBody}
+use Rattle.conn.specs.Cut.{Part, InPlain, AtLine, InData, AtTrailer, part_text, IsPart, IsMore, IsOpenPart, IsBadPart, IsBadLine, IsBadTrailer, Tail, tail_text, IsTail, OpenHead, OpenBody, NoHead, Breaks, NoBody, Closing, IsKept}
 use Rattle.conn.specs.Unique.{FewIsNotMany, FewTrailersAreNotMany, HasOneCut, CutsAreSteps, StepsMakeCuts, EndsStay}
 use Rattle.conn.proofs.Feeding.{tail_more}
 use Rattle.std.proofs.lemmas.Grind.{flat_map-append}

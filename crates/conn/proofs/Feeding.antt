@@ -1,12 +1,11 @@
 -- What a connection stands for when a piece more has come.
-use Rattle.std.proofs.Common.{◌≡◌, ◌≢◌, ◌<◌, ◌≤◌, ◌+◌, ℕ, List, [], ◌∷◌, ◌++◌, length, take, drop, refl, sym, ap, ◌∙◌, append_assoc, arith, inl, inr, length-append}
+use Rattle.std.proofs.Common.{◌≡◌, ◌≤◌, ℕ, List, [], ◌∷◌, ◌++◌, length, take, drop, refl, sym, ap, ◌∙◌, append_assoc, arith, inl, inr, length-append}
 use Rattle.std.proofs.lemmas.List.{take-append-le, drop-append-le}
-use Rattle.httparse.specs.Grammar.{RequestHead, print_request, NeverHasRequest, HasNoRequest, NeverHasChunkLine, HasNoChunkLine, print_chunk_line, NeverHasSection, HasNoSection}
-use Rattle.httparse.specs.Spans.{RequestExceeds, SectionExceeds}
-use Rattle.wire_http.specs.Head.{IsBadHead, BeginsWith}
+use Rattle.httparse.specs.Grammar.{RequestHead, print_request, print_chunk_line}
+use Rattle.wire_http.specs.Head.{IsBadHead}
 use Rattle.conn.specs.Message.{message_text, messages_text}
-use Rattle.conn.specs.Cut.{Part, InPlain, AtLine, InData, AtTrailer, part_text, Event, IsBadLine, IsBadEnd, IsBadTrailer, IsBadPart, Tail, tail_text, tail_events, messages_events, IsTail, OpenHead, OpenBody, NoHead, Breaks, NoBody, Closing, IsOpen, Cut}
-use Rattle.conn.specs.Stands.{Between, Within, Ended, StandsAt, IsOver}
+use Rattle.conn.specs.Cut.{Part, InPlain, AtLine, InData, AtTrailer, part_text, Event, IsBadLine, IsBadEnd, IsBadTrailer, IsBadPart, Tail, tail_text, tail_events, messages_events, IsTail, OpenHead, OpenBody, NoHead, Breaks, NoBody, Closing, IsOpen}
+use Rattle.conn.specs.Stands.{Ended, StandsAt, IsOver}
 use Rattle.wire_http.specs.declared.refusal.WireRefusal.{WireRefusal}
 use Rattle.conn.specs.declared.state.State.{State}
 use Rattle.conn.specs.declared.state.State.TheVariants as state

@@ -1,9 +1,8 @@
 -- A section with at most 64 fields is none with more.
-use Rattle.std.proofs.Common.{◌≡◌, ◌<◌, ◌≤◌, ◌+◌, ℕ, List, [], ◌∷◌, ◌++◌, length, refl, sym, ap, ◌∙◌, append_assoc, arith, length-append}
+use Rattle.std.proofs.Common.{◌≡◌, ◌++◌, length, ap, ◌∙◌, arith, length-append}
 use Rattle.std.specs.List.{flat_map}
 use Rattle.std.proofs.lemmas.List.{append_cancel_right, append-nil}
-use Rattle.httparse.specs.Grammar.{Field, LineEnd, lf, print_field, print_end, print_section, ReadsSection}
-use Rattle.httparse.specs.Spans.{SectionExceeds}
+use Rattle.httparse.specs.Grammar.{lf, print_field, print_end}
 use Rattle.httparse.proofs.PieceLemmas.{Section_skip}
 use Rattle.conn.specs.Unique.{FewTrailersAreNotMany}
 

@@ -1,9 +1,9 @@
 -- A head with at most 64 fields is none with more.
-use Rattle.std.proofs.Common.{◌≡◌, ◌<◌, ◌≤◌, ◌+◌, ℕ, List, [], ◌∷◌, ◌++◌, length, refl, sym, ap, ◌∙◌, append_assoc, arith, length-append}
+use Rattle.std.proofs.Common.{◌≡◌, ℕ, List, [], ◌∷◌, ◌++◌, length, refl, sym, ap, ◌∙◌, append_assoc, arith, length-append}
 use Rattle.std.specs.List.{flat_map}
 use Rattle.std.proofs.lemmas.List.{append_cancel_right, append-nil}
-use Rattle.httparse.specs.Grammar.{RequestHead, IsRequestHead, Field, LineEnd, crlf, lf, print_field, print_end, print_blank, print_version, print_section, print_request, ReadsRequest, IsField}
-use Rattle.httparse.specs.Pieces.{RequestStart, Section, FieldLines}
+use Rattle.httparse.specs.Grammar.{RequestHead, IsRequestHead, LineEnd, crlf, lf, print_field, print_end, print_blank, print_version}
+use Rattle.httparse.specs.Pieces.{RequestStart}
 use Rattle.httparse.proofs.GrammarLemmas.{request_pieces, request_tree, print_request-append, cons-append}
 use Rattle.httparse.proofs.PieceLemmas.{Section_skip, RequestStart_deterministic, Stops_token}
 use Rattle.conn.specs.Unique.{FewIsNotMany}

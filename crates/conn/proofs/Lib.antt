@@ -8,3 +8,4 @@ pub mod Few
 pub mod FewHeads
 pub mod Outcomes
 pub mod Tails
+pub mod Walks

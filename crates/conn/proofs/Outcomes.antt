@@ -1,6 +1,5 @@
 -- Two cuts of the same bytes give the same, but for what may still wait.
-use Rattle.std.proofs.Common.{◌≡◌, ◌≢◌, ◌⊎◌, ◌<◌, ◌≤◌, ◌+◌, ◌-◌, ℕ, Bool, true, false, List, [], ◌∷◌, ◌++◌, length, take, drop, refl, sym, ap, ap₂, ◌∙◌, append_assoc, arith, inl, inr, length-append}
-use Rattle.std.specs.Prelude.{Option, Some, None}
+use Rattle.std.proofs.Common.{◌≡◌, ◌⊎◌, ◌≤◌, ◌+◌, ℕ, List, [], ◌∷◌, ◌++◌, length, refl, sym, ap, ap₂, ◌∙◌, append_assoc, arith, inl, inr, length-append}
 use Rattle.std.specs.List.{AllByRecursion}
 use Rattle.std.proofs.lemmas.List.{append_cancel_left, append-nil}
 use Rattle.httparse.specs.Ascii.{crlf_bytes}
@@ -9,7 +8,7 @@ use Rattle.httparse.proofs.ChunkLemmas.{chunk_line_unique}
 use Rattle.wire_http.specs.Head.{framing, most_body}
 use Rattle.wire_http.specs.declared.head.BodyLen.TheVariants.{Sized, Chunked}
 use Rattle.wire_http.specs.declared.refusal.WireRefusal.{WireRefusal}
-use Rattle.conn.specs.Message.{Chunk, chunk_text, chunks_text, content, IsChunk, IsLast}
+use Rattle.conn.specs.Message.{Chunk, chunks_text, content, IsChunk, IsLast}
 use Rattle.conn.specs.Cut.{Part, InPlain, AtLine, InData, AtTrailer, part_text, IsPart, IsMore, IsOpenPart, IsBadPart}
 use Rattle.conn.specs.Unique.{MayWaitPart}
 use Rattle.conn.proofs.Bodies.{push}

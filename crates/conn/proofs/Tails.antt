@@ -1,5 +1,5 @@
 -- Two tails of one text give the same, but for what may still wait.
-use Rattle.std.proofs.Common.{◌≡◌, ◌⊎◌, ◌≤◌, ◌-◌, ℕ, List, [], ◌∷◌, ◌++◌, length, take, refl, sym, ap, ap₂, ◌∙◌, append_assoc, arith, inl, inr, length-append}
+use Rattle.std.proofs.Common.{◌≡◌, ◌⊎◌, ◌≤◌, ◌-◌, ℕ, List, [], ◌∷◌, ◌++◌, length, take, refl, sym, ap, ap₂, ◌∙◌, append_assoc, arith, inl, inr}
 use Rattle.std.specs.Prelude.{Some, None}
 use Rattle.std.proofs.lemmas.List.{append-nil}
 use Rattle.httparse.specs.Grammar.{RequestHead, IsRequestHead, print_request, EndsInTarget, NeverHasRequest}
@@ -7,9 +7,9 @@ use Rattle.httparse.specs.Spans.{RequestExceeds}
 use Rattle.httparse.proofs.GrammarLemmas.{request_unique}
 use Rattle.wire_http.specs.Head.{refusal_of, IsOpenHead, IsBadHead}
 use Rattle.wire_http.specs.declared.refusal.WireRefusal.{WireRefusal}
-use Rattle.conn.specs.Message.{Message, body_text, messages_text, IsHead}
-use Rattle.conn.specs.Cut.{Part, part_text, Refuses, told, message_events, messages_events, IsOpenPart, IsBadPart, IsPart, Tail, tail_text, tail_events, IsTail, OpenHead, OpenBody, NoHead, Breaks, NoBody, Closing, Cut}
-use Rattle.conn.specs.Unique.{MayWaitPart, MayWait, HasOneOutcome}
+use Rattle.conn.specs.Message.{Message, body_text, IsHead}
+use Rattle.conn.specs.Cut.{Part, part_text, Refuses, told, message_events, messages_events, IsBadPart, IsPart, Tail, tail_text, tail_events, IsTail, OpenHead, OpenBody, NoHead, Breaks, NoBody, Closing}
+use Rattle.conn.specs.Unique.{MayWait, HasOneOutcome}
 use Rattle.conn.proofs.Cuts.{in_front, not_body, one_cut}
 use Rattle.conn.proofs.Few.{few_trailers}
 use Rattle.conn.proofs.FewHeads.{few_heads}

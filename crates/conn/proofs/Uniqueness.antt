@@ -1,5 +1,5 @@
 -- A text begins with at most one message.
-use Rattle.std.proofs.Common.{◌≡◌, ◌<◌, ◌≤◌, ◌+◌, ℕ, List, [], ◌∷◌, ◌++◌, length, take, drop, refl, sym, ap, ap₂, ◌∙◌, append_assoc, arith}
+use Rattle.std.proofs.Common.{◌≡◌, ℕ, List, [], ◌∷◌, ◌++◌, length, take, drop, refl, sym, ap, ap₂, ◌∙◌, append_assoc, arith}
 use Rattle.std.specs.List.{AllByRecursion}
 use Rattle.std.proofs.lemmas.List.{append_cancel_left}
 use Rattle.std.proofs.lemmas.List.Elements.{All-from_recursion}
@@ -8,7 +8,7 @@ use Rattle.httparse.specs.Ascii.{crlf_bytes}
 use Rattle.httparse.specs.Grammar.{RequestHead, print_request, ChunkLine, print_chunk_line, chunk_size, Field, LineEnd, print_section}
 use Rattle.httparse.proofs.GrammarLemmas.{request_unique, section_unique}
 use Rattle.httparse.proofs.ChunkLemmas.{chunk_line_unique}
-use Rattle.conn.specs.Message.{Chunk, chunk_text, chunks_text, IsChunk, IsLast, IsTrailer, Body, Plain, InChunks, body_text, Message, message_text, IsBody, IsMessage}
+use Rattle.conn.specs.Message.{Chunk, chunks_text, IsChunk, IsLast, IsTrailer, Body, Plain, InChunks, body_text, IsBody}
 use Rattle.wire_http.specs.declared.head.BodyLen.TheVariants.{Sized, Chunked}
 use Rattle.conn.specs.Unique.{HasOneMessage}
 

@@ -1,12 +1,12 @@
 -- The bytes of a connection: its whole messages, and what stands behind them.
-use Rattle.std.specs.Prelude.{◌≡◌, ◌≢◌, ℕ, ◌+◌, ◌<◌, ◌≤◌, ◌⊎◌, Bool, true, false, List, [], ◌∷◌, ◌++◌, length, take, drop, Option, Some, None, flat_map, if◌then◌else◌}
+use Rattle.std.specs.Prelude.{◌≡◌, ◌≢◌, ℕ, ◌+◌, ◌<◌, ◌≤◌, ◌⊎◌, Bool, true, false, List, [], ◌∷◌, ◌++◌, length, take, Some, flat_map, if◌then◌else◌}
 use Rattle.std.specs.List.{AllByRecursion}
-use Rattle.httparse.specs.Grammar.{RequestHead, IsRequestHead, print_request, HasNoRequest, MayBecomeRequest, NeverHasRequest, ChunkLine, IsChunkLine, print_chunk_line, chunk_size, HasNoChunkLine, MayBecomeChunkLine, NeverHasChunkLine, HasNoSection, MayBecomeSection, NeverHasSection}
-use Rattle.httparse.specs.Spans.{RequestExceeds, SectionExceeds}
+use Rattle.httparse.specs.Grammar.{RequestHead, print_request, ChunkLine, IsChunkLine, print_chunk_line, chunk_size, HasNoChunkLine, MayBecomeChunkLine, NeverHasChunkLine, HasNoSection, MayBecomeSection, NeverHasSection}
+use Rattle.httparse.specs.Spans.{SectionExceeds}
 use Rattle.cta_model.specs.declared.asks.Who.{Who}
 use Rattle.wire_http.specs.Callers.{who_of}
 use Rattle.wire_http.specs.Head.{most_fields, pairs, target_of, refusal_of, framing, most_body, closes, expects, BeginsWith, IsOpenHead, IsBadHead}
-use Rattle.conn.specs.Message.{most_line, most_trailer, Chunk, chunks_text, content, IsChunk, IsLast, Body, Plain, InChunks, body_bytes, Message, message_text, messages_text, IsHead, IsBody, IsMessage}
+use Rattle.conn.specs.Message.{most_line, most_trailer, Chunk, chunks_text, content, IsChunk, IsLast, body_bytes, Message, message_text, messages_text, IsHead, IsMessage}
 use Rattle.wire_http.specs.declared.head.BodyLen.TheVariants.{Sized, Chunked}
 use Rattle.wire_http.specs.declared.refusal.WireRefusal.{WireRefusal}
 use Rattle.wire_http.specs.declared.refusal.WireRefusal.TheVariants.{BadHead, TooLarge, BadChunk}
@@ -33,10 +33,11 @@ asked h body = record { method = h.method; target = target_of h; who = who_of (p
 abbrev pub told : RequestHead → List Event
 told h = if expects h then Continues ∷ [] else []
 
--- what a message gives, and what several give
+-- what a message gives
 abbrev pub message_events : Message → List Event
 message_events m = told m.head ++ Asks (asked m.head (body_bytes m.body)) ∷ []
 
+-- what several messages give
 abbrev pub messages_events : List Message → List Event
 messages_events ms = flat_map message_events ms
 
@@ -47,13 +48,14 @@ pub data Part : Type 0 where
   InData : (chunks : List Chunk) (line : ChunkLine) (bytes : List ℕ) → Part
   AtTrailer : (chunks : List Chunk) (last : ChunkLine) → Part
 
--- the text of that part, and the bytes of the body in it
+-- the text of that part
 abbrev pub part_text : Part → List ℕ
 part_text (InPlain bytes) = bytes
 part_text (AtLine chunks) = chunks_text chunks
 part_text (InData chunks line bytes) = chunks_text chunks ++ (print_chunk_line line ++ bytes)
 part_text (AtTrailer chunks last) = chunks_text chunks ++ print_chunk_line last
 
+-- the bytes of the body in that part
 abbrev pub part_bytes : Part → List ℕ
 part_bytes (InPlain bytes) = bytes
 part_bytes (AtLine chunks) = content chunks

@@ -1,17 +1,20 @@
 -- Three connections, read by the definitions.
-use Rattle.std.specs.Prelude.{◌≡◌, ℕ, Bool, false, true, List, [], ◌∷◌, ◌++◌, codes, Option, Some, None}
+use Rattle.std.specs.Prelude.{◌≡◌, ℕ, false, List, [], ◌∷◌, ◌++◌, codes, Some, None}
 use Rattle.httparse.specs.Grammar.{Field, crlf, RequestHead, ChunkLine}
 use Rattle.wire_http.specs.Head.{closes, refusal_of}
-use Rattle.conn.specs.Message.{Message, Plain, InChunks, Chunk}
-use Rattle.conn.specs.Cut.{Cut, Event, Asked, Asks, Refuses, OpenHead, Breaks, cut_text, cut_events}
+use Rattle.conn.specs.Message.{Plain, InChunks, Chunk}
+use Rattle.conn.specs.Cut.{Cut, Event, Asks, Refuses, OpenHead, Breaks, cut_text, cut_events}
 use Rattle.wire_http.specs.declared.refusal.WireRefusal.TheVariants.{TwoLengths}
 
+-- a line, with its CR LF
 abbrev pub line : List ℕ → List ℕ
 line text = text ++ 13 ∷ 10 ∷ []
 
+-- a field whose line ends in CR LF
 abbrev pub field : List ℕ → List ℕ → Field
 field name raw = record { name = name; raw = raw; end = crlf }
 
+-- a 1.1 head whose lines end in CR LF
 abbrev pub request : List ℕ → List ℕ → List Field → RequestHead
 request method target fields = record { blank = []; method = method; target = target; minor = 1; line_end = crlf; fields = fields; last = crlf }
 
@@ -19,9 +22,11 @@ request method target fields = record { blank = []; method = method; target = ta
 abbrev pub both : RequestHead
 both = request (codes "PUT") (codes "/data/atlas/a") (field (codes "Host") (codes " t") ∷ field (codes "Content-Length") (codes " 5") ∷ field (codes "Transfer-Encoding") (codes " chunked") ∷ [])
 
+-- its cut
 abbrev pub refused : Cut
 refused = record { whole = []; tail = Breaks both [] TwoLengths }
 
+-- the text of that cut, and that it gives the refusal alone
 abbrev pub RefusesBoth : Type 0
 RefusesBoth =
     (refusal_of 1000 both ≡ Some TwoLengths)
@@ -32,24 +37,30 @@ RefusesBoth =
 abbrev pub first : RequestHead
 first = request (codes "GET") (codes "/a") (field (codes "Host") (codes " t") ∷ [])
 
+-- the head of the second request
 abbrev pub second : RequestHead
 second = request (codes "PUT") (codes "/b") (field (codes "Host") (codes " t") ∷ field (codes "Transfer-Encoding") (codes " chunked") ∷ [])
 
+-- a chunk line of these digits
 abbrev pub size : List ℕ → ChunkLine
 size digits = record { digits = digits; pad = []; extension = None }
 
+-- a chunk of that line and those bytes
 abbrev pub chunk : List ℕ → List ℕ → Chunk
 chunk digits bytes = record { line = size digits; bytes = bytes }
 
+-- the cut of both requests and the first bytes of a third
 abbrev pub pair : Cut
 pair = record {
   whole = record { head = first; body = Plain [] } ∷ record { head = second; body = InChunks (chunk (codes "5") (codes "hello") ∷ chunk (codes "2") (codes "ab") ∷ []) (size (codes "0")) [] crlf } ∷ [];
   tail = OpenHead (codes "GE");
 }
 
+-- a request of nobody named that doesn't close
 abbrev pub asks : List ℕ → List ℕ → List ℕ → Event
 asks method target body = Asks (record { method = method; target = target; who = record { requester = []; group = [] }; body = body; close = false })
 
+-- the text of that cut, and that it gives the two requests
 abbrev pub AsksPair : Type 0
 AsksPair =
     (refusal_of 1000 first ≡ None) × (refusal_of 1000 second ≡ None) × (closes second ≡ false)

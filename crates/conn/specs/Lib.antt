@@ -2,5 +2,6 @@ pub mod Message
 pub mod Cut
 pub mod Reading
 pub mod Stands
+pub mod Walking
 pub mod Examples
 pub mod Unique

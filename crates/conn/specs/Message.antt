@@ -1,5 +1,5 @@
 -- A whole request: its head and its body, and the bytes that spell it.
-use Rattle.std.specs.Prelude.{◌≡◌, ℕ, ◌+◌, ◌<◌, ◌≤◌, Bool, List, [], ◌∷◌, ◌++◌, length, Option, None, flat_map}
+use Rattle.std.specs.Prelude.{◌≡◌, ℕ, ◌<◌, ◌≤◌, List, ◌++◌, length, None, flat_map}
 use Rattle.std.specs.List.{AllByRecursion}
 use Rattle.httparse.specs.Ascii.{crlf_bytes}
 use Rattle.httparse.specs.Grammar.{RequestHead, IsRequestHead, print_request, Field, IsField, LineEnd, print_section, ChunkLine, IsChunkLine, print_chunk_line, chunk_size}
@@ -19,10 +19,11 @@ pub record Chunk : Type 0 where
   pub line : ChunkLine
   pub bytes : List ℕ
 
--- the text of a chunk, and of several
+-- the text of a chunk
 abbrev pub chunk_text : Chunk → List ℕ
 chunk_text c = print_chunk_line c.line ++ (c.bytes ++ crlf_bytes)
 
+-- the text of several chunks
 abbrev pub chunks_text : List Chunk → List ℕ
 chunks_text cs = flat_map chunk_text cs
 
@@ -69,10 +70,11 @@ pub record Message : Type 0 where
   pub head : RequestHead
   pub body : Body
 
--- the text of a message, and of several
+-- the text of a message
 abbrev pub message_text : Message → List ℕ
 message_text m = print_request m.head ++ body_text m.body
 
+-- the text of several messages
 abbrev pub messages_text : List Message → List ℕ
 messages_text ms = flat_map message_text ms
 

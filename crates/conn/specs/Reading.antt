@@ -1,18 +1,20 @@
 -- A body that is being read, and one step of reading it.
-use Rattle.std.specs.Prelude.{◌≡◌, ℕ, ◌+◌, ◌<◌, ◌≤◌, ◌⊎◌, List, [], ◌∷◌, ◌++◌, length, drop, Result, Ok, Err}
+use Rattle.std.specs.Prelude.{◌≡◌, ℕ, ◌+◌, ◌<◌, ◌≤◌, ◌⊎◌, List, [], ◌∷◌, ◌++◌, length, take, drop}
 use Rattle.httparse.specs.Grammar.{RequestHead, chunk_size}
 use Rattle.wire_http.specs.Head.{framing, most_body, IsHeadOf}
-use Rattle.conn.specs.Message.{Body, body_text, body_bytes, IsHead, IsBody}
+use Rattle.conn.specs.Message.{Body, body_text, body_bytes, content, IsHead, IsBody}
 use Rattle.conn.specs.Cut.{Part, InPlain, AtLine, InData, AtTrailer, part_text, part_bytes, IsPart, IsOpenPart, IsBadPart, IsBadEnd}
-use Rattle.wire_http.specs.declared.head.BodyLen.TheVariants.{Sized}
+use Rattle.wire_http.specs.declared.head.BodyLen.{BodyLen}
+use Rattle.wire_http.specs.declared.head.BodyLen.TheVariants.{Sized, Chunked}
 use Rattle.wire_http.specs.declared.refusal.WireRefusal.{WireRefusal}
-use Rattle.conn.specs.declared.body.Phase.{Phase}
-use Rattle.conn.specs.declared.body.Phase.TheVariants as phase
-use Rattle.conn.specs.declared.body.Collected.{Collected}
-use Rattle.conn.specs.declared.body.CrLf.{CrLf}
-use Rattle.conn.specs.declared.body.CrLf.TheVariants as end
-use Rattle.conn.specs.declared.body.Step.{Step}
-use Rattle.conn.specs.declared.body.Step.TheVariants as step
+use Rattle.conn.specs.declared.place.Phase.{Phase}
+use Rattle.conn.specs.declared.place.Phase.TheVariants as phase
+use Rattle.conn.specs.declared.place.Place.{Place}
+use Rattle.conn.specs.declared.state.Collected.{Collected}
+use Rattle.conn.specs.declared.place.CrLf.{CrLf}
+use Rattle.conn.specs.declared.place.CrLf.TheVariants as end
+use Rattle.conn.specs.declared.place.Step.{Step}
+use Rattle.conn.specs.declared.place.Step.TheVariants as step
 
 -- where the code is in that part
 abbrev pub IsPhase : RequestHead → Part → Phase → Type 0
@@ -33,33 +35,44 @@ IsPhase h (AtTrailer chunks last) phase.Line = ⊥
 IsPhase h (AtTrailer chunks last) (phase.Data left) = ⊥
 IsPhase h (AtTrailer chunks last) phase.Trailer = Unit {0}
 
+-- what the chunks may still announce, behind those that were announced
+abbrev pub IsRoom : ℕ → RequestHead → Part → ℕ → Type 0
+IsRoom limit h (InPlain bytes) room = Unit {0}
+IsRoom limit h (AtLine chunks) room = length (content chunks) + room ≡ most_body limit h
+IsRoom limit h (InData chunks line bytes) room = length (content chunks) + chunk_size line + room ≡ most_body limit h
+IsRoom limit h (AtTrailer chunks last) room = Unit {0}
+
+-- the code is at that part of a body behind that head
+pub record IsAt (limit : ℕ) (h : RequestHead) (p : Part) (q : Place) : Type 0 where
+  pub part : IsPart limit h p
+  pub room : IsRoom limit h p q.room
+  pub at : IsPhase h p q.phase
+
+-- where a body begins that is framed so
+abbrev pub start_of : ℕ → BodyLen → Place
+start_of most (Sized n) = record { room = most; phase = phase.Sized n }
+start_of most Chunked = record { room = most; phase = phase.Line }
+
 -- the code's body is that part of a body of that head
 pub record IsInBody (limit : ℕ) (h : RequestHead) (p : Part) (b : Collected) : Type 0 where
   pub head : IsHead limit h
   pub parts : IsHeadOf h b.head
-  pub most : b.most ≡ most_body limit h
-  pub part : IsPart limit h p
   pub bytes : b.maker ≡ part_bytes p
-  pub at : IsPhase h p b.phase
+  pub place : IsAt limit h p b.place
 
--- so many of the bytes were read into the body
-pub record Reached (limit : ℕ) (h : RequestHead) (p : Part) (rest : List ℕ) (used : ℕ) (b : Collected) : Type 0 where
+-- so many bytes were read, of which those belong to the content
+pub record Reached (limit : ℕ) (h : RequestHead) (p : Part) (rest : List ℕ) (used : ℕ) (taken : List ℕ) (q : Place) : Type 0 where
   pub now : Part
-  pub in_body : IsInBody limit h now b
+  pub place : IsAt limit h now q
+  pub bytes : part_bytes now ≡ part_bytes p ++ taken
   pub within : used ≤ length rest
   pub text : part_text p ++ rest ≡ part_text now ++ drop used rest
 
--- more is needed, since what there is goes on as no part yet
-pub record Needs (limit : ℕ) (h : RequestHead) (p : Part) (rest : List ℕ) (b : Collected) : Type 0 where
-  pub in_body : IsInBody limit h p b
-  pub open_part : IsOpenPart h p rest
-
 -- the body is whole
-pub record Ends (limit : ℕ) (h : RequestHead) (p : Part) (rest : List ℕ) (used : ℕ) (b : Collected) : Type 0 where
+pub record Ends (limit : ℕ) (h : RequestHead) (p : Part) (rest : List ℕ) (used : ℕ) : Type 0 where
   pub body : Body
-  pub in_body : IsInBody limit h p b
   pub is_body : IsBody limit h body
-  pub bytes : b.maker ≡ body_bytes body
+  pub bytes : part_bytes p ≡ body_bytes body
   pub within : used ≤ length rest
   pub text : part_text p ++ rest ≡ body_text body ++ drop used rest
 
@@ -72,16 +85,12 @@ pub record Fails (limit : ℕ) (h : RequestHead) (p : Part) (rest : List ℕ) (r
   pub bad : IsBadPart limit h now after refusal
 
 -- what a step says of the body
-abbrev pub StepsTo : ℕ → RequestHead → Part → List ℕ → Collected → Step → Type 0
-StepsTo limit h p rest b (step.Moved used) = Reached limit h p rest used b × (0 < used)
-StepsTo limit h p rest b step.Need = Needs limit h p rest b
-StepsTo limit h p rest b (step.Whole used) = Ends limit h p rest used b
-StepsTo limit h p rest b (step.Refused refusal) = Fails limit h p rest refusal
-
--- after want of memory the body is as before
-abbrev pub Steps : {E : Type 0} → ℕ → RequestHead → Part → List ℕ → Collected → Result Step E → Type 0
-Steps limit h p rest b (Ok s) = StepsTo limit h p rest b s
-Steps limit h p rest b (Err e) = IsInBody limit h p b
+abbrev pub StepsTo : ℕ → RequestHead → Part → List ℕ → Place → Step → Type 0
+StepsTo limit h p rest q (step.Moved used) = Reached limit h p rest used [] q
+StepsTo limit h p rest q (step.Taken used) = Reached limit h p rest used (take used rest) q
+StepsTo limit h p rest q step.Need = IsOpenPart h p rest
+StepsTo limit h p rest q (step.Whole used) = Ends limit h p rest used
+StepsTo limit h p rest q (step.Refused refusal) = Fails limit h p rest refusal
 
 -- a CR LF stands there, part of one, or none
 abbrev pub IsCrLf : List ℕ → CrLf → Type 0
@@ -92,6 +101,7 @@ IsCrLf rest end.Wrong = IsBadEnd rest
 -- a step reads no more than there is
 abbrev pub StepWithin : List ℕ → Step → Type 0
 StepWithin rest (step.Moved used) = (used ≤ length rest) × (0 < used)
+StepWithin rest (step.Taken used) = (used ≤ length rest) × (0 < used)
 StepWithin rest step.Need = Unit {0}
 StepWithin rest (step.Whole used) = used ≤ length rest
 StepWithin rest (step.Refused refusal) = Unit {0}

@@ -1,15 +1,11 @@
 -- What a connection stands for: the bytes that it was fed, and what it has given out.
-use Rattle.std.specs.Prelude.{◌≡◌, ℕ, ◌+◌, ◌*◌, ◌<◌, ◌≤◌, Bool, true, false, List, [], ◌∷◌, ◌++◌, length, drop, Result, Ok, Err, flat_map}
+use Rattle.std.specs.Prelude.{◌≡◌, ℕ, ◌+◌, ◌*◌, ◌<◌, ◌≤◌, true, false, List, [], ◌∷◌, ◌++◌, length, drop, Result, Ok, Err, flat_map}
 use Rattle.std.specs.List.{AllByRecursion}
 use Rattle.httparse.specs.Grammar.{RequestHead, print_request}
 use Rattle.conn.specs.Message.{Message, messages_text}
 use Rattle.conn.specs.Cut.{Part, part_text, Asked, Event, Continues, Asks, Refuses, told, messages_events, IsKept, Cut, IsLinkCut, IsOpen, cut_events}
 use Rattle.conn.specs.Reading.{IsInBody}
-use Rattle.wire_http.specs.declared.head.BodyLen.{BodyLen}
-use Rattle.wire_http.specs.declared.head.BodyLen.TheVariants.{Sized, Chunked}
-use Rattle.conn.specs.declared.body.Phase.{Phase}
-use Rattle.conn.specs.declared.body.Phase.TheVariants as phase
-use Rattle.conn.specs.declared.body.Collected.{Collected}
+use Rattle.conn.specs.declared.state.Collected.{Collected}
 use Rattle.conn.specs.declared.state.State.{State}
 use Rattle.conn.specs.declared.state.State.TheVariants as state
 use Rattle.conn.specs.declared.connection.Conn.{Conn}
@@ -108,11 +104,6 @@ Stands c fed given = StandsAt c.limit c.state (rest_of c) fed given
 abbrev pub Answers : {E : Type 0} → Conn → Result Next E → List ℕ → List Event → Type 0
 Answers c (Ok n) fed given = Gives c.limit n c.state (rest_of c) fed given
 Answers c (Err e) fed given = Stands c fed given
-
--- where a body begins that is framed so
-abbrev pub phase_of : BodyLen → Phase
-phase_of (Sized n) = phase.Sized n
-phase_of Chunked = phase.Line
 
 -- the body was whole with so many bytes and is a request, or it is kept for want of memory
 abbrev pub IsFinished : ℕ → Collected → BodyStep → Type 0

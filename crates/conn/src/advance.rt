@@ -1,28 +1,19 @@
 // One step of a connection.
 ghost use Rattle.std.specs.Prelude.{◌≡◌, ℕ, List, Ok, IfOk};
 ghost use Rattle.conn.specs.Cut.{Event};
-ghost use Rattle.conn.specs.Stands.{StandsAt, Advances, Within, BodySteps, BodyStepWithin, AdvanceWithin, AdvanceLess, phase_of, IsFinished};
+ghost use Rattle.conn.specs.Stands.{StandsAt, Advances, Within, BodySteps, BodyStepWithin, AdvanceWithin, AdvanceLess, IsFinished};
 ghost use Rattle.conn.specs.declared.state.Advance.TheVariants as Advance;
 ghost use Rattle.conn.specs.declared.request.Next.TheVariants as Next;
 ghost use Rattle.conn.specs.declared.state.State.TheVariants as State;
 
-use crate::body::{Collected, Phase, Step, go_on};
+use crate::place::{Step, go_on, start_of};
 use crate::request::{Next, Request};
-use crate::state::{Advance, BodyStep, State};
+use crate::state::{Advance, BodyStep, Collected, State};
 use blob::BlobMaker;
 use cta_site::NoMemory;
 use std::alloc::Global;
 use std::mem;
-use wire_http::{BodyLen, Head, HeadRead, longest_body, read_head};
-
-fn phase_of(len: BodyLen) -> Phase
-    ensures { result ≡ phase_of len }
-{
-    match len {
-        BodyLen::Sized(n) => Phase::Sized(n),
-        BodyLen::Chunked => Phase::Line,
-    }
-}
+use wire_http::{HeadRead, longest_body, read_head};
 
 // A head, where one is whole.
 fn advance_head(
@@ -46,13 +37,12 @@ fn advance_head(
         HeadRead::Head(head) => {
             let used = head.len as usize;
             let expects = head.expects;
-            let phase = phase_of(head.body);
             let most = longest_body(limit, head.method.as_bytes(), head.target.as_bytes());
+            let place = start_of(most, head.body);
             *state = State::InBody(Collected {
                 head,
-                most,
                 maker: BlobMaker::new(alloc),
-                phase,
+                place,
             });
             if expects {
                 Ok(Advance::Gives(used, Next::Continue))
@@ -67,12 +57,7 @@ fn advance_head(
 fn finished(used: usize, body: Collected) -> BodyStep
     ensures { IsFinished used body result }
 {
-    let Collected {
-        head,
-        most,
-        maker,
-        phase,
-    } = body;
+    let Collected { head, maker, place } = body;
     match maker.finish() {
         Ok(content) => BodyStep::Whole(
             used,
@@ -84,12 +69,7 @@ fn finished(used: usize, body: Collected) -> BodyStep
                 close: head.close,
             },
         ),
-        Err((_, maker)) => BodyStep::NoMemory(Collected {
-            head,
-            most,
-            maker,
-            phase,
-        }),
+        Err((_, maker)) => BodyStep::NoMemory(Collected { head, maker, place }),
     }
 }
 
@@ -99,12 +79,22 @@ fn advance_body(rest: &[u8], mut body: Collected) -> BodyStep
         → BodySteps limit rest.now result fed given }
     ensures within { BodyStepWithin rest.now result }
 {
-    match go_on(rest, &mut body) {
-        Ok(Step::Moved(used)) => BodyStep::Moved(used, body),
-        Ok(Step::Need) => BodyStep::Need(body),
-        Ok(Step::Refused(refusal)) => BodyStep::Refused(refusal),
-        Ok(Step::Whole(used)) => finished(used, body),
-        Err(_) => BodyStep::NoMemory(body),
+    let mut place = body.place;
+    match go_on(rest, &mut place) {
+        Step::Moved(used) => {
+            body.place = place;
+            BodyStep::Moved(used, body)
+        }
+        Step::Taken(used) => match body.maker.push(&rest[..used]) {
+            Ok(()) => {
+                body.place = place;
+                BodyStep::Moved(used, body)
+            }
+            Err(_) => BodyStep::NoMemory(body),
+        },
+        Step::Need => BodyStep::Need(body),
+        Step::Whole(used) => finished(used, body),
+        Step::Refused(refusal) => BodyStep::Refused(refusal),
     }
 }
 

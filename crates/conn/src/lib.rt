@@ -3,17 +3,19 @@
 #![tactic(auto)]
 
 mod advance;
-mod body;
 mod connection;
 mod laws;
 mod pieces;
+mod place;
 mod request;
 mod state;
+mod walk;
 
 pub use connection::Conn;
 pub use laws::{one_cut, one_message, one_outcome, steps_follow, two_texts};
 pub use pieces::answers;
 pub use request::{Next, Request};
+pub use walk::has_cut;
 pub use wire_http::{Kind, Reply, WireRefusal, error_reply, refusal_reply, write_reply};
 
 #[cfg(test)]

@@ -1,8 +1,17 @@
 // Where a connection is.
 
-use crate::body::Collected;
+use crate::place::Place;
 use crate::request::{Next, Request};
-use wire_http::WireRefusal;
+use blob::BlobMaker;
+use wire_http::{Head, WireRefusal};
+
+// A head, and what has come of its body.
+#[derive(Drop)]
+pub(crate) struct Collected {
+    pub(crate) head: Head,
+    pub(crate) maker: BlobMaker,
+    pub(crate) place: Place,
+}
 
 #[derive(Drop)]
 pub(crate) enum State {

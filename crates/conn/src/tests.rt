@@ -179,7 +179,7 @@ fn lengths_and_ends(rt: HostRuntime) {
     let alloc = rt.alloc();
     for (blanks, wanted) in [(253, b"".as_slice()), (254, b"bad chunk".as_slice())] {
         let text = long_line(alloc, blanks).unwrap_or(Vec::new(alloc));
-        assert_eq!(rt; text.len(), 63 + blanks);
+        assert_eq!(rt; text.len(), 64 + blanks);
         assert_eq!(rt; given(alloc, text.as_slice(), 0).as_slice(), wanted);
     }
     assert_eq!(rt; given_closed(alloc).len(), 0);
@@ -189,4 +189,5 @@ fn lengths_and_ends(rt: HostRuntime) {
     two_texts();
     steps_follow();
     one_outcome();
+    has_cut(1000, b"GET /a HTTP/1.1\r\nhost: t\r\n\r\nGE");
 }

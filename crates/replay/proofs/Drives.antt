@@ -6,10 +6,14 @@ use Rattle.std.proofs.lemmas.List.Quantifiers.{position-Some}
 use Rattle.std.proofs.lemmas.Iterator.Adapters.{position_from-zero}
 use Rattle.std.proofs.lemmas.List.{get_or-map}
 use Rattle.std.proofs.lemmas.Slice.Eq.{bytes_eq-Decides}
+use Rattle.std.specs.List.Sorted.{IsStrictlySortedBy}
+use Rattle.std.specs.declared.cmp.Ordering.TheVariants.{Less}
+use Rattle.std.specs.Ordering.{nat_cmp}
+use Rattle.std.specs.Cmp.Lexicographic.{slice_cmp, nat_list_cmp_total}
 use Rattle.cta_site.specs.declared.site.Site.{Site}
 use Rattle.cta_site.specs.declared.site.Drive.{Drive}
 use Rattle.cta_site.specs.Lookups.{place_by}
-use Rattle.cta_site.specs.Names.{IsName, is_name_byte}
+use Rattle.cta_site.specs.Names.{IsName, AreAscending, is_name_byte}
 use Rattle.cta_site.specs.ValidSite.{IsValidSite, drive_names}
 use Rattle.replay.specs.Bytes.{Without}
 use Rattle.replay.specs.Line.{drive_name}
@@ -45,19 +49,41 @@ pub drive_found : (site : Site) (name : List ℕ) (o : Option ℕ) → o ≡ pla
     → MatchOption o ((k : ℕ) → k < length site.drives.items → drive_name site k ≢ name) (λ k. (k < length site.drives.items) × (drive_name site k ≡ name))
 drive_found site name o e = found site.drives.items name o e
 
-plain_byte : (b : ℕ) → IsTrue (is_name_byte b) → b ≡ 32 → ⊥
-plain_byte b h e = let no : IsTrue false = subst (λ x. IsTrue (is_name_byte x)) e h in cc
+plain_byte : (c b : ℕ) → is_name_byte c ≡ false → IsTrue (is_name_byte b) → b ≡ c → ⊥
+plain_byte c b other h e = let same : is_name_byte b ≡ is_name_byte c = ap is_name_byte e in cc
 
-plain_bytes : (bs : List ℕ) → AllByRecursion (λ b. IsTrue (is_name_byte b)) bs → Without 32 bs
-plain_bytes [] p = tt
-plain_bytes (b ∷ bs) p = (plain_byte b p.0, plain_bytes bs p.1)
+plain_bytes : (c : ℕ) (bs : List ℕ) → is_name_byte c ≡ false → AllByRecursion (λ b. IsTrue (is_name_byte b)) bs → Without c bs
+plain_bytes c [] other p = tt
+plain_bytes c (b ∷ bs) other p = (plain_byte c b other p.0, plain_bytes c bs other p.1)
 
 length-names : (ds : List Drive) → length (map name_of ds) ≡ length ds
 length-names [] = refl
 length-names (d ∷ ds) = ap suc (length-names ds)
 
--- the name of a drive of a valid site has no space
-pub Without-drive : (site : Site) (drive : ℕ) → IsValidSite site → drive < length site.drives.items → Without 32 (drive_name site drive)
-Without-drive site drive valid h =
+-- the name of a drive of a valid site has no byte that is none of a name's
+pub Without-drive : (c : ℕ) (site : Site) (drive : ℕ) → is_name_byte c ≡ false → IsValidSite site → drive < length site.drives.items → Without c (drive_name site drive)
+Without-drive c site drive other valid h =
     let name : IsName (drive_name site drive) = holds_at IsName (drive_names site) drive [] valid.names.drives (omega (arith, length-names site.drives.items)) in
-    plain_bytes (drive_name site drive) name.bytes
+    plain_bytes c (drive_name site drive) other name.bytes
+
+-- no two names that ascend are equal
+never_below_itself : (a : List ℕ) → slice_cmp nat_cmp a a ≡ Less → ⊥
+never_below_itself a e = let turned = nat_list_cmp_total.antisymm a a in cc
+
+names_apart : (names : List (List ℕ)) (i j : ℕ) → AreAscending names → i < length names → j < length names → get_or names i [] ≡ get_or names j [] → i ≡ j
+unfolding IsStrictlySortedBy
+names_apart [] i j up h k e = absurd (omega arith)
+names_apart (n ∷ names) zero zero up h k e = refl
+names_apart (n ∷ names) zero (suc j) up h k e =
+    let below : slice_cmp nat_cmp n (get_or names j []) ≡ Less = holds_at (λ m. slice_cmp nat_cmp n m ≡ Less) names j [] up.0 (omega arith) in
+    absurd (never_below_itself n (subst (λ m. slice_cmp nat_cmp n m ≡ Less) (sym e) below))
+names_apart (n ∷ names) (suc i) zero up h k e =
+    let below : slice_cmp nat_cmp n (get_or names i []) ≡ Less = holds_at (λ m. slice_cmp nat_cmp n m ≡ Less) names i [] up.0 (omega arith) in
+    absurd (never_below_itself n (subst (λ m. slice_cmp nat_cmp n m ≡ Less) e below))
+names_apart (n ∷ names) (suc i) (suc j) up h k e = ap suc (names_apart names i j up.1 (omega arith) (omega arith) e)
+
+-- the drives of a valid site differ in their names
+pub same_drive : (site : Site) (i j : ℕ) → IsValidSite site → i < length site.drives.items → j < length site.drives.items → drive_name site i ≡ drive_name site j → i ≡ j
+same_drive site i j valid h k e =
+    let n = length-names site.drives.items in
+    names_apart (drive_names site) i j valid.numbered.drives (omega arith) (omega arith) e

@@ -10,6 +10,7 @@ pub mod Lines
 pub mod Running
 pub mod Texts
 pub mod Readings
+pub mod OneReading
 pub mod Completing
 pub mod Sites
 pub mod Whole

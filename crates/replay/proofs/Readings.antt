@@ -26,7 +26,7 @@ record_spelled link moment bytes r =
     ∙ append_assoc (ended (http_text link moment (length bytes))) bytes (10 ∷ r)
     ∙ append_assoc (http_text link moment (length bytes)) (10 ∷ []) (bytes ++ 10 ∷ r)
 
-spelled : (e : Event) (r : List ℕ) → spelling e ++ r ≡ line_text (line_of_event e) ++ 10 ∷ behind_line e r
+pub spelled : (e : Event) (r : List ℕ) → spelling e ++ r ≡ line_text (line_of_event e) ++ 10 ∷ behind_line e r
 spelled (Feed link moment message) r = record_spelled link moment (message_text message) r
 
 http_len : (a b c a' b' c' : ℕ) → Http a b c ≡ Http a' b' c' → (a ≡ a') × (b ≡ b') × (c ≡ c')
@@ -36,10 +36,10 @@ http_end : (a b c : ℕ) → Http a b c ≡ End → ⊥
 http_end a b c e = cc
 
 module _ (site : Site) where
-  is_line : (e : Event) → IsEvent site e → IsBuiltLine (line_of_event e)
+  pub is_line : (e : Event) → IsEvent site e → IsBuiltLine (line_of_event e)
   is_line (Feed link moment message) h = h.0
 
-  same_record : (e f : Event) (r s : List ℕ) → IsEvent site e → IsEvent site f → spelling e ++ r ≡ spelling f ++ s → (e ≡ f) × (r ≡ s)
+  pub same_record : (e f : Event) (r s : List ℕ) → IsEvent site e → IsEvent site f → spelling e ++ r ≡ spelling f ++ s → (e ≡ f) × (r ≡ s)
   same_record (Feed link moment message) (Feed link' moment' message') r s h k d =
       let e = Feed link moment message in
       let f = Feed link' moment' message' in
@@ -66,7 +66,7 @@ module _ (site : Site) where
   not_bad line x (Step drive moment) z h k e = k
   not_bad line x End z h k e = h.2 End tt (sym e)
 
-  against : (t : Tail) (x : List ℕ) (l : Line) (z : List ℕ) → IsTail site t → IsBuiltLine l → tail_bytes site t ++ x ≡ line_text l ++ 10 ∷ z → Against t x l z
+  pub against : (t : Tail) (x : List ℕ) (l : Line) (z : List ℕ) → IsTail site t → IsBuiltLine l → tail_bytes site t ++ x ≡ line_text l ++ 10 ∷ z → Against t x l z
   against Ended x l z h k e = (same_line End l x z tt k e).0
   against (InLine part) x l z h k e = length-without 10 part (line_text l) x z h.0 e
   against (InBytes link moment len held) x l z h k e =
@@ -104,7 +104,7 @@ module _ (site : Site) where
   length-spelling : (f : Event) → length (spelling f) ≡ length (line_text (line_of_event f)) + 1 + length (behind_line f [])
   length-spelling f = let e = ap length (spelled f []) in omega (arith, length-append (spelling f) [], length-append (line_text (line_of_event f)) (10 ∷ behind_line f []), e)
 
-  below_event : (t : Tail) (f : Event) (x r : List ℕ) → IsTail site t → IsEvent site f → Against t x (line_of_event f) (behind_line f r) → IsOpen t × (length (tail_bytes site t) < length (spelling f))
+  pub below_event : (t : Tail) (f : Event) (x r : List ℕ) → IsTail site t → IsEvent site f → Against t x (line_of_event f) (behind_line f r) → IsOpen t × (length (tail_bytes site t) < length (spelling f))
   below_event Ended (Feed link' moment' message) x r h k a = absurd (http_end link' moment' (length (message_text message)) (sym a))
   below_event (InLine part) f x r h k a = let n = length-spelling f in (tt, omega (arith, a))
   below_event (InBytes link moment len held) (Feed link' moment' message) x r h k a =

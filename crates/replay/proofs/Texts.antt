@@ -25,7 +25,7 @@ line_text (Http link moment len) = http_text link moment len
 line_text (Step drive moment) = []
 line_text End = codes "end"
 
-Without-word : (a b : List ℕ) → Without 10 a → Without 10 b → Without 10 (then_word a b)
+pub Without-word : (a b : List ℕ) → Without 10 a → Without 10 b → Without 10 (then_word a b)
 Without-word a b p q = Without-append 10 a (32 ∷ b) p ((λ e. omega arith), q)
 
 pub Without-text : (l : Line) → IsBuiltLine l → Without 10 (line_text l)
@@ -62,7 +62,7 @@ same_http a b c a' b' c' h h' e =
     (decimal_injective a a' (omega arith) (omega arith) p.0, decimal_injective b b' (omega arith) (omega arith) q.0, decimal_injective c c' (omega arith) (omega arith) q.1)
 
 -- two lines differ in their text
-same_text : (l l' : Line) → IsBuiltLine l → IsBuiltLine l' → line_text l ≡ line_text l' → l ≡ l'
+pub same_text : (l l' : Line) → IsBuiltLine l → IsBuiltLine l' → line_text l ≡ line_text l' → l ≡ l'
 same_text (Http a b c) (Http a' b' c') h h' e =
     let words : http_words a b c ≡ http_words a' b' c' = append_cancel_left (codes "http ") (http_words a b c) (http_words a' b' c') e in
     let p = same_http a b c a' b' c' h h' words in

@@ -3,6 +3,7 @@ use Rattle.std.specs.Prelude.{ℕ, ◌<◌, ◌≤◌, List, [], length, slice_i
 use Rattle.std.specs.Fmt.{decimal}
 use Rattle.cta_site.specs.ValidSite.{drive_names}
 use Rattle.cta_site.specs.declared.site.Site.{Site}
+use Rattle.cta_model.specs.Legal.{greatest_moment}
 use Rattle.replay.specs.Bytes.{then_byte}
 use Rattle.replay.specs.declared.line.Line.{Line}
 use Rattle.replay.specs.declared.line.Line.TheVariants.{Http, Step, End}
@@ -33,17 +34,13 @@ text site (Http link moment len) = http_text link moment len
 text site (Step drive moment) = then_word (codes "step") (step_words site drive moment)
 text site End = codes "end"
 
--- the greatest moment: the last second of the year 9999
-abbrev pub last_moment : ℕ
-last_moment = 253402300799
-
 -- the numbers of an `http` line
 abbrev pub IsHttp : ℕ → ℕ → ℕ → Type 0
-IsHttp link moment len = (link ≤ 1023) × (moment ≤ last_moment) × (len ≤ 2147483648)
+IsHttp link moment len = (link ≤ 1023) × (moment ≤ greatest_moment) × (len ≤ 2147483648)
 
 -- the numbers of a `step` line: a drive of the site, and a moment
 abbrev pub IsStep : Site → ℕ → ℕ → Type 0
-IsStep site drive moment = (drive < length site.drives.items) × (moment ≤ last_moment)
+IsStep site drive moment = (drive < length site.drives.items) × (moment ≤ greatest_moment)
 
 -- a line of a script for a site
 abbrev pub IsLine : Site → Line → Type 0

@@ -162,3 +162,7 @@ cut_events c = c.whole ++ tail_events c.tail
 -- each of its parts is what it says
 abbrev pub IsCut : Site → Cut → Type 0
 IsCut site c = AllByRecursion (IsEvent site) c.whole × IsTail site c.tail
+
+-- a script is read in one way: of two cuts with the same bytes, both are one
+abbrev pub HasOneReading : Site → Type 0
+HasOneReading site = (c d : Cut) → IsCut site c → IsCut site d → cut_bytes site c ≡ cut_bytes site d → c ≡ d

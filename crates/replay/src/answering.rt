@@ -2,7 +2,7 @@
 ghost use Rattle.std.specs.Prelude.{◌≡◌, ◌≤◌, IfOk, OnOk, [], ◌∷◌};
 ghost use Rattle.cta_model.specs.Bare.{bare_answer};
 ghost use Rattle.replay.specs.Message.{PutFile, AskInfo, IsMessage, IsNamedPath, said};
-ghost use Rattle.replay.specs.Line.{last_moment};
+ghost use Rattle.cta_model.specs.Legal.{greatest_moment};
 ghost use Rattle.replay.specs.Output.{nobody, asked, answered, kept_then};
 
 use crate::message::MessageRef;
@@ -57,7 +57,7 @@ fn put_answer(
     path: &[u8],
     body: &[u8],
 ) -> Result<Answer, NoMemory>
-    requires moment { moment ≤ last_moment }
+    requires moment { moment ≤ greatest_moment }
     requires named { IsNamedPath path.now }
     ensures answer { IfOk result (λ a. bare_answer a ≡ answered archive.old moment (asked (PutFile path.now body.now))) }
     ensures kept { OnOk result (archive.new ≡ kept_then archive.old moment (asked (PutFile path.now body.now))) }
@@ -86,7 +86,7 @@ fn info_answer(
     moment: u64,
     path: &[u8],
 ) -> Result<Answer, NoMemory>
-    requires moment { moment ≤ last_moment }
+    requires moment { moment ≤ greatest_moment }
     requires named { IsNamedPath path.now }
     ensures { IfOk result (λ a. bare_answer a ≡ answered archive.now moment (asked (AskInfo path.now))) }
 {
@@ -102,7 +102,7 @@ pub fn answer_of(
     moment: u64,
     message: MessageRef<'_>,
 ) -> Result<Answer, NoMemory>
-    requires moment { moment ≤ last_moment }
+    requires moment { moment ≤ greatest_moment }
     requires message { IsMessage archive.old.site.limits.file (said message) }
     ensures answer { IfOk result (λ a. bare_answer a ≡ answered archive.old moment (asked (said message.entry))) }
     ensures kept { OnOk result (archive.new ≡ kept_then archive.old moment (asked (said message.entry))) }

@@ -2,7 +2,7 @@
 ghost use Rattle.std.specs.Prelude.{◌≡◌, ◌≤◌, IfOk, OnOk, string_bytes, codes, [], ◌∷◌, ◌++◌};
 ghost use Rattle.std.specs.Fmt.{decimal};
 ghost use Rattle.replay.specs.Message.{IsMessage, said};
-ghost use Rattle.replay.specs.Line.{last_moment};
+ghost use Rattle.cta_model.specs.Legal.{greatest_moment};
 ghost use Rattle.replay.specs.Output.{frame, joined, next, after, frames_at, output_from};
 ghost use Rattle.replay.specs.Outcome.{Answered, FedBytes};
 ghost use Rattle.replay.specs.Script.{Feed};
@@ -55,7 +55,7 @@ fn answer_frame(
     moment: u64,
     message: MessageRef<'_>,
 ) -> Result<Vec<u8>, NoMemory>
-    requires moment { moment ≤ last_moment }
+    requires moment { moment ≤ greatest_moment }
     requires message { IsMessage archive.old.site.limits.file (said message) }
     ensures frame { IfOk result (λ v. v.items ≡ joined (frames_at archive.old (Feed link moment (said message.entry)))) }
     ensures kept { OnOk result (archive.new ≡ next archive.old (Feed link moment (said message.entry))) }
@@ -85,7 +85,7 @@ fn answer_message<K: Sink>(
     moment: u64,
     message: MessageRef<'_>,
 ) -> Result<(), Unwritten>
-    requires moment { moment ≤ last_moment }
+    requires moment { moment ≤ greatest_moment }
     requires message { IsMessage archive.old.site.limits.file (said message) }
     ensures answered { Answered result (K.written out.old) (K.written out.new) (K.faults out.old) (K.faults out.new)
         (output_from archive.old (Feed link moment (said message.entry) ∷ [])) }
@@ -107,7 +107,7 @@ pub fn answer_bytes<K: Sink>(
     moment: u64,
     bytes: &[u8],
 ) -> Result<bool, Unwritten>
-    requires { moment ≤ last_moment }
+    requires { moment ≤ greatest_moment }
     ensures fed { FedBytes result archive.old archive.new link moment bytes.now (K.written out.old) (K.written out.new) (K.faults out.old) (K.faults out.new) }
     ensures later { K.faults out.old ≤ K.faults out.new }
 {

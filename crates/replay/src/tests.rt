@@ -201,3 +201,100 @@ fn refusals(rt: HostRuntime) -> Result<(), Fail> {
     );
     Ok(())
 }
+
+// How a run ended, what it wrote, and how many bytes of the script it left.
+#[derive(Drop)]
+struct Ended {
+    status: Status,
+    written: Vec<u8>,
+    left: usize,
+}
+
+// A run of the first row, where these reads of the site, reads of the script and writes fail, each by the number of its
+// call from 1; 0 is none.
+fn failing_run(rt: &HostRuntime, site: u64, script: u64, out: u64) -> Result<Ended, Fail> {
+    let word = String::from_str(rt.alloc(), "replay")?;
+    let file = String::from_str(rt.alloc(), "site")?;
+    let words = vec![in rt.alloc(); word, file]?;
+    let bytes = joined(rt, &[SITE_FRONT, LIMITS, SITE_BACK])?;
+    let mut site = MemSource::new(bytes, vec![in rt.alloc(); site]?);
+    let bytes = joined(rt, &[PUT_A, INFO_A, b"end\n"])?;
+    let mut script = MemSource::new(bytes, vec![in rt.alloc(); script]?);
+    let mut out = MemSink::new(rt.alloc(), vec![in rt.alloc(); out]?);
+    let status = replay_top(rt.alloc(), &words, &mut site, &mut script, &mut out);
+    let written = joined(rt, &[out.bytes()])?;
+    let left = script.left().len();
+    Ok(Ended {
+        status,
+        written,
+        left,
+    })
+}
+
+// The bytes of the first row's script.
+fn script_len() -> usize {
+    PUT_A.len() + INFO_A.len() + 4
+}
+
+// The replies to so many bytes of the first row's script: a message is answered once it is held, before its last LF.
+fn replies(rt: &HostRuntime, taken: usize) -> Result<Vec<u8>, Fail> {
+    if taken < PUT_A.len() - 1 {
+        return joined(rt, &[]);
+    }
+    if taken < PUT_A.len() + INFO_A.len() - 1 {
+        return joined(rt, &[STORED]);
+    }
+    joined(rt, &[STORED, ON_DISK])
+}
+
+// At a failed read of the site nothing is written, and the script is left: the first such read where it isn't so, or 0.
+fn wrong_site_read(rt: &HostRuntime, reads: u64) -> Result<u64, Fail> {
+    for read in 1..=reads {
+        let ended = failing_run(rt, read, 0, 0)?;
+        let stands = ended.written.is_empty() && ended.left == script_len();
+        if ended.status != Status::ReadFault || !stands {
+            return Ok(read);
+        }
+    }
+    Ok(0)
+}
+
+// At a failed read of the script the replies to the bytes taken are written, and no more: the first such read where it
+// isn't so, or 0.
+fn wrong_script_read(rt: &HostRuntime, reads: u64) -> Result<u64, Fail> {
+    for read in 1..=reads {
+        let ended = failing_run(rt, 0, read, 0)?;
+        let wanted = replies(rt, script_len().saturating_sub(ended.left))?;
+        if ended.status != Status::ReadFault || ended.written.as_slice() != wanted.as_slice() {
+            return Ok(read);
+        }
+    }
+    Ok(0)
+}
+
+// At a failed write a front of the replies is written, and not all: the first such write where it isn't so, or 0.
+fn wrong_write(rt: &HostRuntime, writes: u64) -> Result<u64, Fail> {
+    let whole = joined(rt, &[STORED, ON_DISK])?;
+    for write in 1..=writes {
+        let ended = failing_run(rt, 0, 0, write)?;
+        let is_front = ended.written.len() < whole.len() && whole.starts_with(&ended.written);
+        if ended.status != Status::WriteFault || !is_front {
+            return Ok(write);
+        }
+    }
+    Ok(0)
+}
+
+// Each read and each write of the first row fails in turn: the site is two reads, with that of its end; each byte of the
+// script's three lines is one, as are the bytes of a record and the LF behind them; and each reply is a write.
+#[test]
+fn faults(rt: HostRuntime) -> Result<(), Fail> {
+    assert_eq!(rt; wrong_site_read(&rt, 2)?, 0);
+    assert_eq!(rt; wrong_script_read(&rt, 36)?, 0);
+    assert_eq!(rt; wrong_write(&rt, 2)?, 0);
+    let ended = failing_run(&rt, 3, 37, 3)?;
+    let whole = replies(&rt, script_len())?;
+    assert!(rt; ended.status == Status::Ok && ended.left == 0);
+    assert!(rt; ended.written.as_slice() == whole.as_slice());
+    Ok(())
+}

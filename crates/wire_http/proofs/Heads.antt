@@ -11,13 +11,16 @@ use Rattle.httparse.specs.declared.spans.RequestSpans.{RequestSpans}
 use Rattle.httparse.specs.declared.Error.{Error}
 use Rattle.httparse.specs.declared.Error.TheVariants.{TooManyHeaders, HeaderName, HeaderValue, NewLine, Status, Token, Version}
 use Rattle.wire_http.specs.Fields.{Pair, is_length, lengths}
-use Rattle.wire_http.specs.Rules.{first_broken, body_len, is_expecting, is_closing, breaks_target, breaks_host, breaks_two_lengths, breaks_coding, breaks_length}
+use Rattle.wire_http.specs.Rules.{first_broken, longest_body, body_len, is_expecting, is_closing, breaks_target, breaks_host, breaks_two_lengths, breaks_coding, breaks_length}
 use Rattle.wire_http.specs.declared.refusal.WireRefusal.TheVariants.{BadTarget, BadHost, TwoLengths, Coding, BadLength}
 use Rattle.wire_http.specs.declared.head.HeadRead.{HeadRead}
 use Rattle.wire_http.specs.declared.head.HeadRead.TheVariants as read
 use Rattle.wire_http.specs.Callers.{text_or_none, who_of}
 use Rattle.wire_http.specs.declared.head.Head.{Head}
-use Rattle.wire_http.specs.Head.{target_of, pairs, refusal_of, IsHeadOf, BeginsWith, IsReading, IsReadingOf}
+use Rattle.wire_http.specs.declared.head.Frame.{Frame}
+use Rattle.wire_http.specs.declared.head.Judged.{Judged}
+use Rattle.wire_http.specs.declared.head.Judged.TheVariants as judged
+use Rattle.wire_http.specs.Head.{target_of, pairs, refusal_of, IsHeadOf, IsFrameOf, BeginsWith, IsReading, IsReadingOf, IsJudged, IsJudgmentOf}
 use Rattle.wire_http.proofs.Queries.{query_text, text_is, token_text}
 
 -- all bytes are the first ones and the others
@@ -61,24 +64,42 @@ lengths_of_none limit method target minor fs e =
     let f = none_parts (breaks_length minor fs) BadLength _ d.1 in
     true_of_not _ (or_parts _ _ (or_parts _ _ f.0).1).0
 
--- what was taken from the places of a head's parts says what the head says
-pub head_of : (limit : ℕ) (method target : List ℕ) (minor : ℕ) (fs : List Pair) (h : RequestHead) (head : Head) → IsRequestHead h
+-- what was found at the places of a head's parts is what the head says of its message
+pub frame_of : (limit : ℕ) (method target : List ℕ) (minor : ℕ) (fs : List Pair) (h : RequestHead) (f : Frame)
     → method ≡ h.method → target ≡ target_of h → minor ≡ h.minor → fs ≡ pairs h → first_broken limit method target minor fs ≡ None
-    → head.method ≡ text_or_none method → head.target ≡ text_or_none target → head.who ≡ who_of fs → head.body ≡ body_len fs
-    → head.expects ≡ is_expecting minor fs → head.close ≡ is_closing minor fs → head.len ≡ length (print_request h)
-    → (refusal_of limit h ≡ None) × IsHeadOf h head
-head_of limit method target minor fs h head is m t v f none hm ht hw hb he hc hl = (
-  ap₂ (λ x y. first_broken limit x y h.minor (pairs h)) (sym m) (sym t) ∙ ap₂ (λ x y. first_broken limit method target x y) (sym v) (sym f) ∙ none,
+    → f.body ≡ body_len fs → f.most ≡ longest_body limit method target → f.expects ≡ is_expecting minor fs → f.close ≡ is_closing minor fs
+    → f.len ≡ length (print_request h) → (refusal_of limit h ≡ None) × IsFrameOf limit h f
+frame_of limit method target minor fs h f m t v s none hb hm he hc hl = (
+  ap₂ (λ x y. first_broken limit x y h.minor (pairs h)) (sym m) (sym t) ∙ ap₂ (λ x y. first_broken limit method target x y) (sym v) (sym s) ∙ none,
   record {
-    method = hm ∙ ap text_or_none m ∙ token_text h.method is.method;
-    target = ht ∙ ap text_or_none t ∙ text_is (target_of h) (query_text h.target is.target_text);
-    who = hw ∙ ap who_of f;
-    body = hb ∙ ap body_len f;
-    expects = he ∙ ap₂ (λ x y. is_expecting x y) v f;
-    close = hc ∙ ap₂ (λ x y. is_closing x y) v f;
+    body = hb ∙ ap body_len s;
+    most = hm ∙ ap₂ (λ x y. longest_body limit x y) m t;
+    expects = he ∙ ap₂ (λ x y. is_expecting x y) v s;
+    close = hc ∙ ap₂ (λ x y. is_closing x y) v s;
     len = hl;
   },
 )
+
+-- the texts of a head, and what it says of its message, are what the head says
+pub head_of : (limit : ℕ) (method target : List ℕ) (fs : List Pair) (h : RequestHead) (f : Frame) (head : Head) → IsRequestHead h
+    → method ≡ h.method → target ≡ target_of h → fs ≡ pairs h → IsFrameOf limit h f
+    → head.method ≡ text_or_none method → head.target ≡ text_or_none target → head.who ≡ who_of fs → head.body ≡ f.body
+    → head.expects ≡ f.expects → head.close ≡ f.close → head.len ≡ f.len → IsHeadOf h head
+head_of limit method target fs h f head is m t s of hm ht hw hb he hc hl = record {
+  method = hm ∙ ap text_or_none m ∙ token_text h.method is.method;
+  target = ht ∙ ap text_or_none t ∙ text_is (target_of h) (query_text h.target is.target_text);
+  who = hw ∙ ap who_of s;
+  body = hb ∙ of.body;
+  expects = he ∙ of.expects;
+  close = hc ∙ of.close;
+  len = hl ∙ of.len;
+}
+
+-- what a whole head is judged as is a judgment of the bytes
+pub judged_of : (limit : ℕ) (bs rest : List ℕ) (h : RequestHead) (j : Judged) → BeginsWith bs h rest → IsJudgmentOf limit h j → IsJudged limit bs j
+judged_of limit bs rest h judged.Need b k = absurd k
+judged_of limit bs rest h (judged.Passes f) b k = record { tree = h; rest = rest; begins = b; passes = k.0; parts = k.1 }
+judged_of limit bs rest h (judged.Refused refusal) b k = inr (record { tree = h; rest = rest; begins = b; breaks = k })
 
 -- what a whole head is read as is a reading of the bytes
 pub reading_of : (limit : ℕ) (bs rest : List ℕ) (h : RequestHead) (r : HeadRead) → BeginsWith bs h rest → IsReadingOf limit h r → IsReading limit bs r

@@ -9,6 +9,9 @@ use Rattle.wire_http.specs.declared.head.BodyLen.{BodyLen}
 use Rattle.wire_http.specs.declared.head.HeadRead.{HeadRead}
 use Rattle.wire_http.specs.declared.head.HeadRead.TheVariants as read
 use Rattle.wire_http.specs.declared.head.Head.{Head}
+use Rattle.wire_http.specs.declared.head.Frame.{Frame}
+use Rattle.wire_http.specs.declared.head.Judged.{Judged}
+use Rattle.wire_http.specs.declared.head.Judged.TheVariants as judged
 use Rattle.wire_http.specs.declared.refusal.WireRefusal.{WireRefusal}
 use Rattle.wire_http.specs.declared.refusal.WireRefusal.TheVariants.{BadHead}
 
@@ -32,10 +35,11 @@ target_of h = before_query h.target
 abbrev pub refusal_of : ℕ → RequestHead → Option WireRefusal
 refusal_of limit h = first_broken limit h.method (target_of h) h.minor (pairs h)
 
--- how the body behind a head is framed, and how long it may be
+-- how the body behind a head is framed
 abbrev pub framing : RequestHead → BodyLen
 framing h = body_len (pairs h)
 
+-- how long the body behind a head may be
 abbrev pub most_body : ℕ → RequestHead → ℕ
 most_body limit h = longest_body limit h.method (target_of h)
 
@@ -100,3 +104,31 @@ abbrev pub IsReadingOf : ℕ → RequestHead → HeadRead → Type 0
 IsReadingOf limit h read.Need = ⊥
 IsReadingOf limit h (read.Head head) = (refusal_of limit h ≡ None) × IsHeadOf h head
 IsReadingOf limit h (read.Refused refusal) = refusal_of limit h ≡ Some refusal
+
+-- what was judged says what that head says of its message
+pub record IsFrameOf (limit : ℕ) (h : RequestHead) (f : Frame) : Type 0 where
+  pub body : f.body ≡ framing h
+  pub most : f.most ≡ most_body limit h
+  pub expects : f.expects ≡ expects h
+  pub close : f.close ≡ closes h
+  pub len : f.len ≡ length (print_request h)
+
+-- the bytes begin with a head that keeps the rules, and it was judged
+pub record PassesHead (limit : ℕ) (bytes : List ℕ) (f : Frame) : Type 0 where
+  pub tree : RequestHead
+  pub rest : List ℕ
+  pub begins : BeginsWith bytes tree rest
+  pub passes : refusal_of limit tree ≡ None
+  pub parts : IsFrameOf limit tree f
+
+-- what the judgment of the front says
+abbrev pub IsJudged : ℕ → List ℕ → Judged → Type 0
+IsJudged limit bytes judged.Need = IsOpenHead bytes
+IsJudged limit bytes (judged.Passes f) = PassesHead limit bytes f
+IsJudged limit bytes (judged.Refused refusal) = ((refusal ≡ BadHead) × IsBadHead bytes) ⊎ BreaksRule limit bytes refusal
+
+-- what a whole head is judged as
+abbrev pub IsJudgmentOf : ℕ → RequestHead → Judged → Type 0
+IsJudgmentOf limit h judged.Need = ⊥
+IsJudgmentOf limit h (judged.Passes f) = (refusal_of limit h ≡ None) × IsFrameOf limit h f
+IsJudgmentOf limit h (judged.Refused refusal) = refusal_of limit h ≡ Some refusal

@@ -70,10 +70,11 @@ fields_text r =
 abbrev pub reply_text : Reply → List ℕ
 reply_text r = status_line r.code ++ fields_text r ++ crlf_bytes ++ content r.kind
 
--- the body of an error is the JSON object with the text as its member `error`
+-- an error is the JSON object with the text as its one member `error`
 abbrev pub error_tokens : List ℕ → List Token
 error_tokens text = begin_object ∷ key (codes "error") ∷ string text ∷ end_object ∷ []
 
+-- the body of an error, as text
 abbrev pub error_body : List ℕ → List ℕ
 error_body text = print (error_tokens text)
 

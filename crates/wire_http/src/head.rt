@@ -2,11 +2,11 @@
 ghost use Rattle.std.specs.Prelude.{◌≡◌, ◌≤◌, length, IfOk};
 ghost use Rattle.httparse.specs.Spans.{IsRequestWithin, IsRequestOf, IsRequestAt};
 ghost use Rattle.httparse.specs.Grammar.{RequestHead};
-ghost use Rattle.wire_http.specs.Head.{IsReading, IsReadingOf};
+ghost use Rattle.wire_http.specs.Head.{IsReading, IsReadingOf, IsJudged, IsJudgmentOf};
 
 use crate::callers::{front, text_or_none, who_of};
 use crate::refusal::WireRefusal;
-use crate::rules::{body_len, first_broken, is_closing, is_expecting};
+use crate::rules::{body_len, first_broken, is_closing, is_expecting, longest_body};
 use crate::target::before_query;
 use cta_model::Who;
 use cta_site::{NoMemory, Text};
@@ -53,7 +53,69 @@ pub enum HeadRead {
     Refused(WireRefusal),
 }
 
+/// What a head that no rule refuses says of its message, without its texts.
+#[derive(Clone, Copy, Debug, PartialEq, Eq)]
+pub struct Frame {
+    pub body: BodyLen,
+    /// The most bytes that the body may have.
+    pub most: u64,
+    /// Whether a 100 Continue is due after the head (RFC 9110, 10.1.1).
+    pub expects: bool,
+    /// Whether the connection closes after the reply (RFC 9112, 9.6).
+    pub close: bool,
+    /// The bytes of the head, at most 16,384, the empty lines before it included.
+    pub len: u32,
+}
+
+/// What the bytes that follow the last message begin with, without the texts of a head.
+#[derive(Clone, Copy, Debug, PartialEq, Eq)]
+pub enum Judged {
+    /// No whole head so far, and one may come.
+    Need,
+    Passes(Frame),
+    Refused(WireRefusal),
+}
+
 // A whole head, with the places of its parts.
+fn judge_whole(buf: &[u8], headers: &[HeaderSpan], spans: RequestSpans, limit: u64) -> Judged
+    requires within { IsRequestWithin buf.now headers.now spans }
+    requires small { length buf.now ≤ 16384 }
+    ensures { (h : RequestHead) → IsRequestAt buf.now headers.now spans h → IsJudgmentOf limit h result }
+{
+    let headers = &headers[..spans.headers];
+    let method = spans.method.of(buf);
+    let target = before_query(spans.path.of(buf));
+    if let Some(refusal) = first_broken(limit, method, target, spans.version, buf, headers) {
+        return Judged::Refused(refusal);
+    }
+    Judged::Passes(Frame {
+        body: body_len(buf, headers),
+        most: longest_body(limit, method, target),
+        expects: is_expecting(spans.version, buf, headers),
+        close: is_closing(spans.version, buf, headers),
+        len: spans.len as u32,
+    })
+}
+
+/// Judges the head at the front of the bytes that follow the last message of a connection, as `read_head` reads it,
+/// and takes no memory.
+pub fn judge_head(bytes: &[u8], file_limit: u64) -> Judged
+    ensures { IsJudged file_limit bytes.now result }
+{
+    let window = front(bytes, MOST_HEAD);
+    let mut headers = [EMPTY_HEADER_SPAN; 64];
+    match parse_request(window, &mut headers) {
+        Ok(Status::Complete(spans)) => judge_whole(window, &headers, spans, file_limit),
+        Ok(Status::Partial) => if window.len() < MOST_HEAD {
+            Judged::Need
+        } else {
+            Judged::Refused(WireRefusal::BadHead)
+        },
+        Err(_) => Judged::Refused(WireRefusal::BadHead),
+    }
+}
+
+// A whole head, with its texts.
 fn whole_head(
     alloc: Global,
     buf: &[u8],
@@ -66,26 +128,22 @@ fn whole_head(
     ensures { IfOk result (λ read. (h : RequestHead) → IsRequestAt buf.now headers.now spans h
         → IsReadingOf limit h read) }
 {
-    let headers = &headers[..spans.headers];
-    let method = spans.method.of(buf);
-    let target = before_query(spans.path.of(buf));
-    if let Some(refusal) = first_broken(limit, method, target, spans.version, buf, headers) {
-        return Ok(HeadRead::Refused(refusal));
-    }
-    let body = body_len(buf, headers);
-    let expects = is_expecting(spans.version, buf, headers);
-    let close = is_closing(spans.version, buf, headers);
-    let method = text_or_none(alloc, method)?;
-    let target = text_or_none(alloc, target)?;
-    let who = who_of(alloc, buf, headers)?;
+    let frame = match judge_whole(buf, headers, spans, limit) {
+        Judged::Passes(frame) => frame,
+        Judged::Refused(refusal) => return Ok(HeadRead::Refused(refusal)),
+        Judged::Need => return Ok(HeadRead::Need),
+    };
+    let method = text_or_none(alloc, spans.method.of(buf))?;
+    let target = text_or_none(alloc, before_query(spans.path.of(buf)))?;
+    let who = who_of(alloc, buf, &headers[..spans.headers])?;
     Ok(HeadRead::Head(Head {
         method,
         target,
         who,
-        body,
-        expects,
-        close,
-        len: spans.len as u32,
+        body: frame.body,
+        expects: frame.expects,
+        close: frame.close,
+        len: frame.len,
     }))
 }
 

@@ -12,7 +12,7 @@ mod rules;
 mod target;
 mod written;
 
-pub use head::{BodyLen, Head, HeadRead, read_head};
+pub use head::{BodyLen, Frame, Head, HeadRead, Judged, judge_head, read_head};
 pub use refusal::WireRefusal;
 pub use reply::{Kind, Reply, error_reply, refusal_reply};
 pub use rules::longest_body;

@@ -14,6 +14,15 @@ fn word_of(alloc: Global, bytes: &[u8]) -> &'static str {
     }
 }
 
+// The same, as it is judged.
+fn judged_word(bytes: &[u8]) -> &'static str {
+    match judge_head(bytes, 1000) {
+        Judged::Need => "need",
+        Judged::Passes(_) => "head",
+        Judged::Refused(refusal) => refusal.text(),
+    }
+}
+
 // Heads whole, and the first rule that each of the others breaks.
 #[test]
 fn heads(rt: HostRuntime) {
@@ -74,6 +83,7 @@ fn heads(rt: HostRuntime) {
     ];
     for (bytes, wanted) in cases {
         assert_eq!(rt; word_of(alloc, bytes), wanted);
+        assert_eq!(rt; judged_word(bytes), wanted);
     }
     let long = [b'\n'; 16384];
     assert_eq!(rt; word_of(alloc, &long[..16383]), "need");

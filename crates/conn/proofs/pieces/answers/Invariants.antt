@@ -1,4 +1,4 @@
-use Rattle.std.proofs.Common.{◌≡◌, ℕ, List, take}
+use Rattle.std.proofs.Common.{◌≡◌, take}
 use Rattle.std.specs.List.{flat_map}
 use Rattle.conn.specs.Stands.{Stands, Settled, given_by, limit_of}
 use Rattle.conn.proofs.pieces.answers.Given as goal

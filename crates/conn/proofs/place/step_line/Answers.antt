@@ -1,7 +1,6 @@
-use Rattle.std.proofs.Common.{◌≡◌, ◌≤◌, ◌<◌, length, refl, sym, ap, ◌∙◌, arith, inl, inr}
-use Rattle.std.proofs.lemmas.List.{append-nil}
+use Rattle.std.proofs.Common.{refl, arith, inl, inr}
 use Rattle.conn.proofs.Lines.{line_last, line_more, line_large, line_bad, line_need, never_line, line_positive, front_within}
-use Rattle.conn.proofs.body.step_line.Goals as goal
+use Rattle.conn.proofs.place.step_line.Goals as goal
 
 pub returns-in-Err-clause-steps : goal.returns-in-Err-clause-steps
 returns-in-Err-clause-steps c = λ limit h p inb.
@@ -17,22 +16,18 @@ returns-else-rest-gt-MOST_LINE-clause-steps c = λ limit h p inb.
 
 pub returns-in-Ok-Complete-default-eq0-clause-steps : goal.returns-in-Ok-Complete-default-eq0-clause-steps
 returns-in-Ok-Complete-default-eq0-clause-steps c = λ limit h p inb.
-    let found = rw (c.in-Ok-Complete-default-eq0.field-0-is, c.front.ensures) at c.in-Ok-Complete-default-eq0.ensures.complete in (
-      line_last limit h p _ _ _ found.0 _ _ c.requires inb found.1 c.in-Ok-Complete-default-eq0.field-0-0-1-test (record { head = refl; most = refl; bytes = sym (append-nil _) }) refl,
-      omega (arith, found.1.len_is, line_positive found.0 found.1.reads.0),
-    )
+    let found = rw (c.in-Ok-Complete-default-eq0.field-0-is, c.front.ensures) at c.in-Ok-Complete-default-eq0.ensures.complete in
+    line_last limit h p _ _ _ found.0 _ _ c.requires inb found.1 c.in-Ok-Complete-default-eq0.field-0-0-1-test refl
 
-pub returns-then-size-saturating_sub-clause-steps : goal.returns-then-size-saturating_sub-clause-steps
-returns-then-size-saturating_sub-clause-steps c = λ limit h p inb.
+pub returns-then-size-place-clause-steps : goal.returns-then-size-place-clause-steps
+returns-then-size-place-clause-steps c = λ limit h p inb.
     let found = rw (c.in-Ok-Complete.field-0-is, c.front.ensures) at c.in-Ok-Complete.ensures.complete in
-    line_large limit h p _ _ _ found.0 _ c.requires inb found.1 (omega (arith, c.saturating_sub.ensures, c.len.ensures))
+    line_large limit h p _ _ _ found.0 _ c.requires inb found.1 (omega arith)
 
-pub returns-else-size-saturating_sub-clause-steps : goal.returns-else-size-saturating_sub-clause-steps
-returns-else-size-saturating_sub-clause-steps c = λ limit h p inb.
-    let found = rw (c.in-Ok-Complete.field-0-is, c.front.ensures) at c.in-Ok-Complete.ensures.complete in (
-      line_more limit h p _ _ _ found.0 _ _ c.requires inb found.1 (omega (arith, c.in-Ok-Complete.size-test)) (omega (arith, c.in-Ok-Complete.size-test, c.saturating_sub.ensures, c.len.ensures)) (record { head = refl; most = refl; bytes = sym (append-nil _) }) refl,
-      omega (arith, found.1.len_is, line_positive found.0 found.1.reads.0),
-    )
+pub returns-else-size-place-clause-steps : goal.returns-else-size-place-clause-steps
+returns-else-size-place-clause-steps c = λ limit h p inb.
+    let found = rw (c.in-Ok-Complete.field-0-is, c.front.ensures) at c.in-Ok-Complete.ensures.complete in
+    line_more limit h p _ _ _ found.0 _ _ c.requires inb found.1 (omega (arith, c.in-Ok-Complete.size-test)) (omega arith) refl refl
 
 pub returns-in-Ok-Complete-default-eq0-clause-within :
     goal.returns-in-Ok-Complete-default-eq0-clause-within
@@ -40,8 +35,8 @@ returns-in-Ok-Complete-default-eq0-clause-within c =
     let found = rw (c.in-Ok-Complete-default-eq0.field-0-is, c.front.ensures) at c.in-Ok-Complete-default-eq0.ensures.complete in
     ((front_within 256 _ c.args.rest.now _ _ found.1.reads.1 found.1.len_is).0, omega (arith, found.1.len_is, line_positive found.0 found.1.reads.0))
 
-pub returns-else-size-saturating_sub-clause-within :
-    goal.returns-else-size-saturating_sub-clause-within
-returns-else-size-saturating_sub-clause-within c =
+pub returns-else-size-place-clause-within :
+    goal.returns-else-size-place-clause-within
+returns-else-size-place-clause-within c =
     let found = rw (c.in-Ok-Complete.field-0-is, c.front.ensures) at c.in-Ok-Complete.ensures.complete in
     ((front_within 256 _ c.args.rest.now _ _ found.1.reads.1 found.1.len_is).0, omega (arith, found.1.len_is, line_positive found.0 found.1.reads.0))

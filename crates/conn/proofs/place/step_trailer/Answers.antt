@@ -1,8 +1,8 @@
-use Rattle.std.proofs.Common.{◌≡◌, ◌≤◌, ◌<◌, length, refl, sym, ap, ◌∙◌, arith, inl, inr}
+use Rattle.std.proofs.Common.{refl, arith, inl, inr}
 use Rattle.std.specs.Prelude.{Err}
 use Rattle.std.proofs.lemmas.List.{length-take}
 use Rattle.conn.proofs.Lines.{by_error, never_section, exceeds_section, trailer_bad, trailer_need, trailer_whole}
-use Rattle.conn.proofs.body.step_trailer.Goals as goal
+use Rattle.conn.proofs.place.step_trailer.Goals as goal
 
 pub returns-in-Err-clause-steps : goal.returns-in-Err-clause-steps
 returns-in-Err-clause-steps c = λ limit h p inb.

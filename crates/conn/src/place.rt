@@ -1,15 +1,13 @@
-// A body that is being read.
-ghost use Rattle.std.specs.Prelude.{◌≡◌, ◌≤◌, ◌<◌, ℕ, IfOk, length, take};
+// Where the reading of a body is, and its steps, which take no memory.
+ghost use Rattle.std.specs.Prelude.{◌≡◌, ◌≤◌, ◌<◌, ℕ, length, take};
 ghost use Rattle.httparse.specs.Grammar.{RequestHead};
 ghost use Rattle.conn.specs.Cut.{Part};
-ghost use Rattle.conn.specs.Reading.{IsInBody, Steps, StepsTo, StepWithin, IsCrLf};
-ghost use Rattle.conn.specs.declared.body.Phase.TheVariants as Phase;
+ghost use Rattle.conn.specs.Reading.{IsAt, StepsTo, StepWithin, IsCrLf, start_of};
+ghost use Rattle.conn.specs.declared.place.Phase.TheVariants as Phase;
 
-use blob::BlobMaker;
-use cta_site::NoMemory;
 use httparse::spans::{EMPTY_HEADER_SPAN, parse_headers};
 use httparse::{Status, parse_chunk_size};
-use wire_http::{Head, WireRefusal};
+use wire_http::{BodyLen, WireRefusal};
 
 // The most bytes of a chunk line, its CR LF included.
 const MOST_LINE: usize = 256;
@@ -29,25 +27,36 @@ pub(crate) enum Phase {
     Trailer,
 }
 
-// A head, and what has come of its body, which may have `most` bytes.
-#[derive(Drop)]
-pub(crate) struct Collected {
-    pub(crate) head: Head,
-    pub(crate) most: u64,
-    pub(crate) maker: BlobMaker,
+// What a body is at, and how many bytes more its chunks may announce.
+#[derive(Clone, Copy, Debug, PartialEq, Eq)]
+pub(crate) struct Place {
+    pub(crate) room: u64,
     pub(crate) phase: Phase,
 }
 
 // What a step has done.
 #[derive(Clone, Copy, Debug, PartialEq, Eq)]
 pub(crate) enum Step {
-    // So many bytes were read.
+    // So many bytes of the framing were read.
     Moved(usize),
+    // So many bytes belong to the content.
+    Taken(usize),
     // The bytes are too few.
     Need,
     // With so many bytes the body is whole.
     Whole(usize),
     Refused(WireRefusal),
+}
+
+// Where a body begins that is framed so and may have `most` bytes.
+pub(crate) fn start_of(most: u64, len: BodyLen) -> Place
+    ensures { result ≡ start_of most len }
+{
+    let phase = match len {
+        BodyLen::Sized(n) => Phase::Sized(n),
+        BodyLen::Chunked => Phase::Line,
+    };
+    Place { room: most, phase }
 }
 
 // The first bytes, at most so many.
@@ -75,26 +84,21 @@ fn few(rest: &[u8], left: u64) -> usize
 }
 
 // Bytes of a body of stated length.
-fn step_sized(rest: &[u8], body: &mut Collected, left: u64) -> Result<Step, NoMemory>
-    requires { body.old.phase ≡ Phase.Sized left }
-    ensures steps { (limit : ℕ) (h : RequestHead) (p : Part) → IsInBody limit h p body.old
-        → Steps limit h p rest.now body.new result }
-    ensures within { IfOk result (StepWithin rest.now) }
+fn step_sized(rest: &[u8], place: &mut Place, left: u64) -> Step
+    requires { place.old.phase ≡ Phase.Sized left }
+    ensures steps { (limit : ℕ) (h : RequestHead) (p : Part) → IsAt limit h p place.old
+        → StepsTo limit h p rest.now place.new result }
+    ensures within { StepWithin rest.now result }
 {
     if left == 0 {
-        return Ok(Step::Whole(0));
+        return Step::Whole(0);
     }
     if rest.len() == 0 {
-        return Ok(Step::Need);
+        return Step::Need;
     }
     let n = few(rest, left);
-    match body.maker.push(&rest[..n]) {
-        Ok(()) => {
-            body.phase = Phase::Sized(left - n as u64);
-            Ok(Step::Moved(n))
-        }
-        Err(_) => Err(NoMemory),
-    }
+    place.phase = Phase::Sized(left - n as u64);
+    Step::Taken(n)
 }
 
 // What stands where a CR LF should.
@@ -121,52 +125,48 @@ fn cr_lf(rest: &[u8]) -> CrLf
 }
 
 // Bytes of a chunk, or the CR LF behind them.
-fn step_data(rest: &[u8], body: &mut Collected, left: u64) -> Result<Step, NoMemory>
-    requires { body.old.phase ≡ Phase.Data left }
-    ensures steps { (limit : ℕ) (h : RequestHead) (p : Part) → IsInBody limit h p body.old
-        → Steps limit h p rest.now body.new result }
-    ensures within { IfOk result (StepWithin rest.now) }
+fn step_data(rest: &[u8], place: &mut Place, left: u64) -> Step
+    requires { place.old.phase ≡ Phase.Data left }
+    ensures steps { (limit : ℕ) (h : RequestHead) (p : Part) → IsAt limit h p place.old
+        → StepsTo limit h p rest.now place.new result }
+    ensures within { StepWithin rest.now result }
 {
     if left == 0 {
-        return Ok(match cr_lf(rest) {
+        return match cr_lf(rest) {
             CrLf::Part => Step::Need,
             CrLf::Whole => {
-                body.phase = Phase::Line;
+                place.phase = Phase::Line;
                 Step::Moved(2)
             }
             CrLf::Wrong => Step::Refused(WireRefusal::BadChunk),
-        });
+        };
     }
     if rest.len() == 0 {
-        return Ok(Step::Need);
+        return Step::Need;
     }
     let n = few(rest, left);
-    match body.maker.push(&rest[..n]) {
-        Ok(()) => {
-            body.phase = Phase::Data(left - n as u64);
-            Ok(Step::Moved(n))
-        }
-        Err(_) => Err(NoMemory),
-    }
+    place.phase = Phase::Data(left - n as u64);
+    Step::Taken(n)
 }
 
 // The line of a chunk.
-fn step_line(rest: &[u8], body: &mut Collected) -> Step
-    requires { body.old.phase ≡ Phase.Line }
-    ensures steps { (limit : ℕ) (h : RequestHead) (p : Part) → IsInBody limit h p body.old
-        → StepsTo limit h p rest.now body.new result }
+fn step_line(rest: &[u8], place: &mut Place) -> Step
+    requires { place.old.phase ≡ Phase.Line }
+    ensures steps { (limit : ℕ) (h : RequestHead) (p : Part) → IsAt limit h p place.old
+        → StepsTo limit h p rest.now place.new result }
     ensures within { StepWithin rest.now result }
 {
     match parse_chunk_size(front(rest, MOST_LINE)) {
         Ok(Status::Complete((used, 0))) => {
-            body.phase = Phase::Trailer;
+            place.phase = Phase::Trailer;
             Step::Moved(used)
         }
         Ok(Status::Complete((used, size))) => {
-            if size > body.most.saturating_sub(body.maker.len()) {
+            if size > place.room {
                 return Step::Refused(WireRefusal::TooLarge);
             }
-            body.phase = Phase::Data(size);
+            place.room -= size;
+            place.phase = Phase::Data(size);
             Step::Moved(used)
         }
         Ok(Status::Partial) => if rest.len() > MOST_LINE {
@@ -179,10 +179,10 @@ fn step_line(rest: &[u8], body: &mut Collected) -> Step
 }
 
 // The trailer, whose fields are dropped.
-fn step_trailer(rest: &[u8], body: &Collected) -> Step
-    requires { body.now.phase ≡ Phase.Trailer }
-    ensures steps { (limit : ℕ) (h : RequestHead) (p : Part) → IsInBody limit h p body.now
-        → StepsTo limit h p rest.now body.now result }
+fn step_trailer(rest: &[u8], place: Place) -> Step
+    requires { place.phase ≡ Phase.Trailer }
+    ensures steps { (limit : ℕ) (h : RequestHead) (p : Part) → IsAt limit h p place
+        → StepsTo limit h p rest.now place result }
     ensures within { StepWithin rest.now result }
 {
     let mut fields = [EMPTY_HEADER_SPAN; 64];
@@ -198,15 +198,15 @@ fn step_trailer(rest: &[u8], body: &Collected) -> Step
 }
 
 // Reads the next part of a body.
-pub(crate) fn go_on(rest: &[u8], body: &mut Collected) -> Result<Step, NoMemory>
-    ensures steps { (limit : ℕ) (h : RequestHead) (p : Part) → IsInBody limit h p body.old
-        → Steps limit h p rest.now body.new result }
-    ensures within { IfOk result (StepWithin rest.now) }
+pub(crate) fn go_on(rest: &[u8], place: &mut Place) -> Step
+    ensures steps { (limit : ℕ) (h : RequestHead) (p : Part) → IsAt limit h p place.old
+        → StepsTo limit h p rest.now place.new result }
+    ensures within { StepWithin rest.now result }
 {
-    match body.phase {
-        Phase::Sized(left) => step_sized(rest, body, left),
-        Phase::Line => Ok(step_line(rest, body)),
-        Phase::Data(left) => step_data(rest, body, left),
-        Phase::Trailer => Ok(step_trailer(rest, body)),
+    match place.phase {
+        Phase::Sized(left) => step_sized(rest, place, left),
+        Phase::Line => step_line(rest, place),
+        Phase::Data(left) => step_data(rest, place, left),
+        Phase::Trailer => step_trailer(rest, *place),
     }
 }
