@@ -8,3 +8,9 @@ pub mod Longest
 pub mod Places
 pub mod Under
 pub mod Words
+pub mod Sets
+pub mod Parts
+pub mod Moved
+pub mod Kept
+pub mod Ordered
+pub mod Numbered

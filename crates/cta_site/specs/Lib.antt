@@ -7,3 +7,9 @@ pub mod Scans
 pub mod FirstSite
 pub mod Bytes
 pub mod Laws
+pub mod Items
+pub mod Forms
+pub mod Paths
+pub mod References
+pub mod Faults
+pub mod Numbering

@@ -13,7 +13,7 @@ use crate::valid_site::ValidSite;
 use std::alloc::Global;
 
 // A text of these characters.
-fn text(alloc: Global, characters: &str) -> Result<Text, NoMemory>
+pub(crate) fn text(alloc: Global, characters: &str) -> Result<Text, NoMemory>
     ensures { IfOk result (λ text. text ≡ characters.now) }
 {
     match String::from_str(alloc, characters) {
@@ -206,7 +206,12 @@ fn limits(buffer: u64, file: u64, history: u32) -> Limits
 }
 
 // The site with these three numbers, as its file says it.
-fn whole_site(alloc: Global, buffer: u64, file: u64, history: u32) -> Result<Site, NoMemory>
+pub(crate) fn whole_site(
+    alloc: Global,
+    buffer: u64,
+    file: u64,
+    history: u32,
+) -> Result<Site, NoMemory>
     ensures { IfOk result (λ site. bare_site site ≡ first.first_site buffer file history) }
 {
     let (sitename, endpoint, default_policy, repack_policy) = texts(alloc)?;

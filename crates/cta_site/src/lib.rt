@@ -1,24 +1,35 @@
 //! The site: what a tape archive is given by its operator, and what follows from it by name.
 //!
-//! `Site` is a site as its file says it, `ValidSite` one that keeps the rules of a site. A `ValidSite` numbers its
-//! virtual organisations, storage classes, tape pools, mount policies, libraries, tapes and drives from 0 in byte order
-//! of their names, and answers by name: the storage class of a path, a caller's mount policy, the pool of a copy, the
-//! number of a drive or a tape. The crate also has the two building blocks of all public types here and above: `Text`,
-//! which contracts see as its bytes, and `Rows`, which they see as its items and the room that is left.
+//! `Site` is a site as its file says it, and `Site::check` makes a `ValidSite` of one that keeps the rules of a site,
+//! or names the first rule that it breaks and the element that breaks it. A `ValidSite` numbers its virtual
+//! organisations, storage classes, tape pools, mount policies, libraries, tapes and drives from 0 in byte order of
+//! their names, and answers by name: the storage class of a path, a caller's mount policy, the pool of a copy, the
+//! number of a drive or a tape. The crate also has the two building blocks of all public types here and above:
+//! `Text`, which contracts see as its bytes, and `Rows`, which they see as its items and the room that is left.
 #![tactic(auto)]
 
 mod bytes;
+mod check;
+mod faults;
 mod first_site;
 mod first_value;
+mod forms;
+mod keys;
 mod lookups;
+mod named;
+mod names;
 mod no_memory;
 mod numbers;
+mod order;
+mod paths;
+mod routes;
 mod rows;
 mod site;
 mod text;
 mod twin;
 mod valid_site;
 
+pub use check::SiteError;
 pub use first_site::read_first_site;
 pub use no_memory::NoMemory;
 pub use rows::Rows;

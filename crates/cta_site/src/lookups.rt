@@ -95,6 +95,13 @@ pub(crate) fn copies_at(classes: &[Class], class: u32) -> u8
     }
 }
 
+// Whether a route is that of this class and copy.
+pub(crate) fn is_route_of(route: &Route, class: &[u8], copy: u8) -> bool
+    ensures { result ≡ is_route_of class.now copy route.now }
+{
+    route.class.is(class) && route.copy == copy
+}
+
 // The first route of this class and copy.
 pub(crate) fn route_of<'a>(routes: &'a [Route], class: &[u8], copy: u8) -> Option<&'a Route>
     ensures { option_copied result ≡ find (is_route_of class.now copy) routes.now }

@@ -1,6 +1,9 @@
 // Lists with room for more.
 ghost use Rattle.std.specs.Prelude.{◌≡◌, ◌+◌, ◌<◌, ◌≤◌, [], ◌∷◌, ◌++◌, length, IfOk, OnOk};
+ghost use Rattle.std.specs.List.Sorted.{IsPermutation};
+ghost use Rattle.cta_site.specs.Numbering.{IsByName};
 
+use crate::named::Named;
 use crate::no_memory::NoMemory;
 use crate::twin::Twin;
 use std::marker::Model;
@@ -83,5 +86,18 @@ impl<T: Twin> Rows<T> {
             }
         }
         Ok(Rows { inner: twins })
+    }
+}
+
+impl<T: Named> Rows<T> {
+    // Puts the items in byte order of their names. NoMemory leaves them in their order. Its cost is the number of items times its logarithm.
+    pub(crate) fn sort(&mut self) -> Result<(), NoMemory>
+        ensures permutation { IsPermutation self.old.items self.new.items }
+        ensures sorted { OnOk result (IsByName T.name_of self.new.items) }
+    {
+        match self.inner.sort_by(|x, y| x.name().cmp(y.name())) {
+            Ok(()) => Ok(()),
+            Err(_) => Err(NoMemory),
+        }
     }
 }

@@ -1,5 +1,6 @@
 // Runs of the public calls, with ample memory.
-use crate::{Rows, Text, ValidSite, read_first_site};
+use crate::first_value::{text, whole_site};
+use crate::{Rows, Site, SiteError, Text, ValidSite, Vo, read_first_site};
 use std::alloc::{AllocError, Global};
 use std::test::Fail;
 
@@ -177,5 +178,86 @@ fn small_site(rt: HostRuntime) -> Result<(), Fail> {
         None => 0,
     };
     assert_eq!(rt; two, 2);
+    Ok(())
+}
+
+// A change of the small site.
+#[derive(Clone, Copy, Debug)]
+enum Change {
+    Nothing,
+    FileAboveBuffer,
+    NoRoute,
+    DefaultPolicy,
+    VoInFront,
+    VoTwice,
+}
+
+// Each change, and what `check` says then: the name of the first virtual organisation, or the rule and the item.
+const CHANGES: [(Change, Result<&str, SiteError>); 6] = [
+    (Change::Nothing, Ok("atlas")),
+    (
+        Change::FileAboveBuffer,
+        Err(SiteError::Fault { rule: 5, item: 0 }),
+    ),
+    (Change::NoRoute, Err(SiteError::Fault { rule: 19, item: 0 })),
+    (
+        Change::DefaultPolicy,
+        Err(SiteError::Fault { rule: 24, item: 0 }),
+    ),
+    (Change::VoInFront, Ok("alice")),
+    (Change::VoTwice, Err(SiteError::Fault { rule: 9, item: 1 })),
+];
+
+// Adds a virtual organisation of this name behind the others.
+fn add_vo(alloc: Global, site: &mut Site, name: &str) {
+    let Ok(name) = text(alloc, name) else {
+        return;
+    };
+    match site.vos.reserve(1) {
+        Ok(()) => site.vos.push(Vo {
+            name,
+            read_drives: 1,
+            write_drives: 1,
+        }),
+        Err(_) => {}
+    }
+}
+
+// The small site with a change.
+fn changed(alloc: Global, change: Change) -> Option<Site> {
+    let Ok(mut site) = whole_site(alloc, 1000, 1000, 1000) else {
+        return None;
+    };
+    match change {
+        Change::Nothing => {}
+        Change::FileAboveBuffer => site.limits.file = 1001,
+        Change::NoRoute => site.routes = Rows::of(Vec::new(alloc)),
+        Change::DefaultPolicy => site.default_policy = text(alloc, "none").ok()?,
+        Change::VoInFront => add_vo(alloc, &mut site, "alice"),
+        Change::VoTwice => add_vo(alloc, &mut site, "atlas"),
+    }
+    Some(site)
+}
+
+// Whether `check` says this of the small site with a change.
+fn says(alloc: Global, change: Change, wanted: Result<&str, SiteError>) -> bool {
+    let Some(site) = changed(alloc, change) else {
+        return false;
+    };
+    match (site.check(alloc), wanted) {
+        (Ok(valid), Ok(first)) => match valid.vos() {
+            [vo, ..] => vo.name.is(first.as_bytes()),
+            [] => false,
+        },
+        (Err(error), Err(cause)) => error == cause,
+        _ => false,
+    }
+}
+
+#[test]
+fn checked_sites(rt: HostRuntime) -> Result<(), Fail> {
+    for (change, wanted) in CHANGES {
+        assert_eq!(rt; says(rt.alloc(), change, wanted), true, "at {change:?}");
+    }
     Ok(())
 }
