@@ -19,7 +19,7 @@ use Rattle.cta_model.specs.History.{History, entry_of, moment_of, weight_of, wei
 use Rattle.cta_model.specs.Files.{live_file, live_after, path_in, path_of, sum_in, entry_sum, size_of, is_live}
 use Rattle.cta_model.specs.Buffer.{brings_in, arrival_of, last_arrival}
 use Rattle.cta_model.specs.Space.{file_brought, arrived_in, resident_files, size_of_files, free_space, evictable_size, evicted_for}
-use Rattle.cta_model.specs.Paths.{is_path}
+use Rattle.cta_site.specs.Paths.{is_path}
 use Rattle.cta_model.specs.Answers.{refuse, answer_of, put_answer, is_accepted, is_built, is_too_heavy}
 use Rattle.cta_model.specs.Legal.{IsLegal}
 use Rattle.cta_model.specs.Kept.{AreBuilt}

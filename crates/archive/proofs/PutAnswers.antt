@@ -17,7 +17,7 @@ use Rattle.cta_model.specs.declared.answers.Refusal.{Refusal}
 use Rattle.cta_model.specs.declared.answers.Refusal.TheVariants as refusal
 use Rattle.cta_model.specs.History.{History, moment_of, weight_of}
 use Rattle.cta_model.specs.Files.{live_file}
-use Rattle.cta_model.specs.Paths.{is_path}
+use Rattle.cta_site.specs.Paths.{is_path}
 use Rattle.cta_model.specs.Answers.{refuse, weighed, served_answer}
 use Rattle.cta_model.specs.Legal.{IsLegal, new_entry, greatest_moment}
 use Rattle.cta_model.specs.Kept.{AreBuilt}

@@ -6,7 +6,7 @@ use Rattle.cta_model.specs.declared.answers.Refusal.{Refusal}
 use Rattle.cta_model.specs.declared.answers.Refusal.TheVariants as refusal
 use Rattle.cta_model.specs.History.{History}
 use Rattle.cta_model.specs.Files.{live_file, sum_in}
-use Rattle.cta_model.specs.Paths.{is_path}
+use Rattle.cta_site.specs.Paths.{is_path}
 use Rattle.cta_model.specs.Legal.{IsLegal}
 use Rattle.cta_model.specs.Kept.{AreBuilt}
 

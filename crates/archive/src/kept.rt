@@ -2,7 +2,8 @@
 ghost use Rattle.std.specs.Prelude.{◌≡◌, ◌≤◌, ◌<◌, ◌^◌, ◌+◌, [], ◌∷◌, length, IfOk, IfErr, OnErr, OnOk};
 ghost use Rattle.cta_site.specs.Listed.{rows};
 ghost use Rattle.cta_site.specs.ValidSite.{IsValidSite};
-ghost use Rattle.cta_model.specs.Answers.{served_answer, served_look};
+ghost use Rattle.cta_model.specs.Answers.{served_answer};
+ghost use Rattle.cta_model.specs.Looks.{served_look};
 ghost use Rattle.cta_model.specs.Bare.{bare_answer, bare_ask, bare_entry};
 ghost use Rattle.cta_model.specs.Files.{sum_in};
 ghost use Rattle.cta_model.specs.History.{moment_of};
@@ -13,9 +14,8 @@ ghost use Rattle.archive.specs.Puts.{first_refusal, put_refusal, IsKept};
 
 use crate::files::live_file;
 use crate::localities::place_infos;
-use crate::paths::is_path;
 use cta_model::{Actor, Answer, Ask, Entry, Look, NoMemory, Refusal, Rows, Text};
-use cta_site::ValidSite;
+use cta_site::{ValidSite, is_path};
 use std::alloc::Global;
 use std::marker::Model;
 

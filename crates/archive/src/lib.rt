@@ -8,7 +8,6 @@ mod entries;
 mod files;
 mod kept;
 mod localities;
-mod paths;
 mod places;
 mod tapes;
 

@@ -1,6 +1,6 @@
 // Where files are kept, and the look that tells it.
 ghost use Rattle.std.specs.Prelude.{◌≡◌, ◌^◌, ◌<◌, length, IfOk};
-ghost use Rattle.cta_model.specs.Answers.{place_info, place_infos};
+ghost use Rattle.cta_model.specs.Reports.{place_info, place_infos};
 ghost use Rattle.cta_model.specs.Files.{live_file};
 ghost use Rattle.cta_model.specs.Localities.{locality_by, locality_of};
 ghost use Rattle.cta_model.specs.Newest.{history_in};

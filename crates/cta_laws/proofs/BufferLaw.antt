@@ -24,7 +24,7 @@ use Rattle.cta_model.specs.Buffer.{brings_in, lists_evicted, arrival_after, arri
 use Rattle.cta_model.specs.Space.{file_brought, arrived_in, resident_files, size_of_files, bytes_to_read, free_space, may_be_evicted, evictable_files, evictable_size, prefix_of_size, evicted_for}
 use Rattle.cta_model.specs.Queues.{queue_of}
 use Rattle.cta_model.specs.Batches.{taken_of, read_items, insert_by_fseq, fseq_on, batch_by, batch_of}
-use Rattle.cta_model.specs.Paths.{is_path}
+use Rattle.cta_site.specs.Paths.{is_path}
 use Rattle.cta_model.specs.Answers.{refuse, answer_of, is_accepted, is_too_heavy, is_known, claims_all, put_answer, claim_answer, claim_by, batch_answer}
 use Rattle.cta_model.specs.Legal.{IsLegal, IsFit, IsMountOf}
 use Rattle.cta_laws.specs.Space.{BufferHasRoom}

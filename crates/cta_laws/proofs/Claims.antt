@@ -19,7 +19,7 @@ use Rattle.cta_model.specs.Files.{size_of, sum_of, copies_of_file}
 use Rattle.cta_model.specs.Mounts.{mount_of, is_open, last_batch, batch_in, batch_or}
 use Rattle.cta_model.specs.Tapes.{used_bytes, next_fseq}
 use Rattle.cta_model.specs.Space.{free_space, evictable_size}
-use Rattle.cta_model.specs.Jobs.{jobs_born, born_files, born_copies, live_birth, archive_job, may_bear, live_jobs, is_live_job}
+use Rattle.cta_model.specs.Jobs.{jobs_born, born_files, born_copies, live_birth, job_of, may_bear, live_jobs, is_live_job}
 use Rattle.cta_model.specs.Queues.{queue_of, stands_in}
 use Rattle.cta_model.specs.Batches.{taken_of, written_items, read_items, insert_by_fseq, fseq_on, batch_of, batch_by}
 use Rattle.cta_model.specs.Answers.{refuse, answer_of, claim_by, claim_answer, batch_answer, is_too_heavy}
@@ -61,10 +61,10 @@ abbrev pub ItemBelow : ℕ → Item → Type 0
 ItemBelow n i = i.job.file ≤ n
 
 copies_below : (site : Site) (h : History) (b f c n : ℕ) → f ≤ n → AllOf (Below n) (born_copies site h b f c)
-copies_below site h b f zero n low = elim (is_number b (live_birth site h f 0)) as (λ t. AllOf (Below n) (if t then archive_job b f 0 ∷ [] else [])) [ true ↦ (low, tt) | false ↦ tt ]
+copies_below site h b f zero n low = elim (is_number b (live_birth site h f 0)) as (λ t. AllOf (Below n) (if t then job_of b f 0 ∷ [] else [])) [ true ↦ (low, tt) | false ↦ tt ]
 copies_below site h b f (suc c) n low =
     all_append (Below n) (born_copies site h b f c) _ (copies_below site h b f c n low)
-    (elim (is_number b (live_birth site h f (suc c))) as (λ t. AllOf (Below n) (if t then archive_job b f (suc c) ∷ [] else [])) [ true ↦ (low, tt) | false ↦ tt ])
+    (elim (is_number b (live_birth site h f (suc c))) as (λ t. AllOf (Below n) (if t then job_of b f (suc c) ∷ [] else [])) [ true ↦ (low, tt) | false ↦ tt ])
 
 files_below : (site : Site) (h : History) (b f n : ℕ) → f ≤ n → AllOf (Below n) (born_files site h b f)
 files_below site h b zero n low = tt

@@ -12,9 +12,8 @@ use Rattle.cta_model.specs.declared.answers.Answer.TheVariants as answer
 use Rattle.cta_model.specs.declared.answers.Refusal.TheVariants as refusal
 use Rattle.cta_model.specs.declared.asks.Item.{Item}
 use Rattle.cta_model.specs.declared.asks.Job.{Job}
-use Rattle.cta_model.specs.History.{History}
+use Rattle.cta_model.specs.History.{History, is_empty}
 use Rattle.cta_model.specs.Mounts.{is_open, open_mounts, claimed_items, claimed_after, without_jobs, item_jobs}
-use Rattle.cta_model.specs.Recalls.{is_empty}
 use Rattle.cta_model.specs.Answers.{refuse, answer_of, is_accepted}
 use Rattle.cta_model.specs.Legal.{IsLegal, IsNext}
 use Rattle.cta_laws.specs.Mounts.{ClaimsNothingAfterEnd}

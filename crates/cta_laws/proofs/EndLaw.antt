@@ -15,7 +15,7 @@ use Rattle.cta_model.specs.declared.asks.Job.{Job}
 use Rattle.cta_model.specs.declared.asks.Item.{Item}
 use Rattle.cta_model.specs.History.{History, is_number}
 use Rattle.cta_model.specs.Mounts.{same_job, has_job, item_jobs}
-use Rattle.cta_model.specs.Jobs.{archive_birth, archive_after, archive_job, bears_archive, ends_archive, live_birth, is_live_job, live_jobs, jobs_born, job_end, end_after}
+use Rattle.cta_model.specs.Jobs.{archive_birth, archive_after, job_of, bears_archive, ends_archive, live_birth, is_live_job, live_jobs, jobs_born, job_end, end_after}
 use Rattle.cta_model.specs.Queues.{queue_of, stands_in}
 use Rattle.cta_model.specs.Stages.{claim_names}
 use Rattle.cta_model.specs.Answers.{refuse, answer_of, is_accepted, is_known}
@@ -32,7 +32,7 @@ archive_ended site h e f c b low None d =
     elim (bears_archive site h e.ask e.answer f c) as (λ t. is_number b (if t then Some (length h + 1) else None) ≡ false)
     [ true ↦ not_next b (length h) low | false ↦ refl ]
 archive_ended site h e f c b low (Some birth) d =
-    elim (ends_archive site h e.ask e.answer (archive_job birth f c)) as (λ t. is_number b (if t then None else Some birth) ≡ false)
+    elim (ends_archive site h e.ask e.answer (job_of birth f c)) as (λ t. is_number b (if t then None else Some birth) ≡ false)
     [ true ↦ refl | false ↦ d ]
 
 archive_before : (site : Site) (h : History) (f c b : ℕ) → is_number b (archive_birth site h f c) ≡ true → b ≤ length h
@@ -44,7 +44,7 @@ archive_before site (e ∷ h) f c b y = (let low : b ≤ length h + 1 = after (a
         elim (bears_archive site h e.ask e.answer f c) as (λ t. is_number b (if t then Some (length h + 1) else None) ≡ true → b ≤ length h + 1)
         [ true ↦ λ z. (let x : b ≡ length h + 1 = eqb-true b (length h + 1) z in omega arith) | false ↦ λ z. absurd (cc) ]
     after (Some birth) before =
-        elim (ends_archive site h e.ask e.answer (archive_job birth f c)) as (λ t. is_number b (if t then None else Some birth) ≡ true → b ≤ length h + 1)
+        elim (ends_archive site h e.ask e.answer (job_of birth f c)) as (λ t. is_number b (if t then None else Some birth) ≡ true → b ≤ length h + 1)
         [ true ↦ λ z. absurd (cc) | false ↦ λ z. (let x : b ≤ length h = before z in omega arith) ]
 
 -- ---- all jobs

@@ -19,7 +19,7 @@ use Rattle.cta_model.specs.Tapes.{may_be_read, is_disabled}
 use Rattle.cta_model.specs.Places.{fseq_after, is_copy_of, place_after, flushed_in, last_flushed, was_flushed, copies_flushed, is_taped}
 use Rattle.cta_model.specs.Buffer.{is_resident}
 use Rattle.cta_model.specs.Localities.{locality_by, locality_of, has_place_where}
-use Rattle.cta_model.specs.Answers.{place_info, place_infos}
+use Rattle.cta_model.specs.Reports.{place_info, place_infos}
 use Rattle.cta_laws.specs.Localities.{WasFlushed, SaysTape, TapeIsFlushed, IsTrueOfTape, ToldTapeIsFlushed}
 
 -- an item that put the copy on tape is among the items

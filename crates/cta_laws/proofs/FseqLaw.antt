@@ -14,12 +14,11 @@ use Rattle.cta_model.specs.declared.asks.Direction.TheVariants as direction
 use Rattle.cta_model.specs.declared.asks.Job.{Job}
 use Rattle.cta_model.specs.declared.asks.Item.{Item}
 use Rattle.cta_model.specs.declared.states.Mount.{Mount}
-use Rattle.cta_model.specs.History.{History, moment_of, has_number}
+use Rattle.cta_model.specs.History.{History, moment_of, has_number, is_empty}
 use Rattle.cta_model.specs.Mounts.{mount_of, tape_by, tape_of_mount, asked_mount, open_mounts, open_after, is_mount, is_mounted, is_open, same_job, item_jobs, last_batch, batch_in, batch_or}
 use Rattle.cta_model.specs.Tapes.{tape_items, items_after, next_fseq, is_broken, tape_state, used_bytes}
 use Rattle.cta_model.specs.Queues.{queue_of}
 use Rattle.cta_model.specs.Batches.{written_items, batch_of, batch_by, taken_of}
-use Rattle.cta_model.specs.Recalls.{is_empty}
 use Rattle.cta_model.specs.Answers.{answer_of, is_accepted, is_too_heavy, is_known, is_last_batch, same_items, same_item, reclaim_answer, live_copies_on}
 use Rattle.cta_model.specs.Legal.{IsLegal, IsFit, IsMountOf}
 use Rattle.cta_laws.specs.Places.{is_item_of, PlacesBelow}

@@ -20,14 +20,14 @@ use Rattle.cta_model.specs.declared.answers.Refusal.TheVariants as refusal
 use Rattle.cta_model.specs.declared.asks.Job.{Job}
 use Rattle.cta_model.specs.declared.states.Mount.{Mount}
 use Rattle.cta_model.specs.declared.states.Place.{Place}
-use Rattle.cta_model.specs.History.{History, has_number, is_number}
+use Rattle.cta_model.specs.History.{History, has_number, is_number, is_empty}
 use Rattle.cta_model.specs.Files.{is_live, path_of, copies_of_file}
 use Rattle.cta_model.specs.Mounts.{mount_of, mount_in, asked_mount, tape_by, tape_of_mount, is_open, is_mounted, last_batch, item_jobs}
 use Rattle.cta_model.specs.Tapes.{tape_state, state_after, is_broken, may_be_written, may_be_read, used_bytes}
 use Rattle.cta_model.specs.Places.{place_of, places_of, places_up_to, last_flushed, fseq_after, flushed_in}
 use Rattle.cta_model.specs.Charges.{charges_of}
 use Rattle.cta_model.specs.Buffer.{is_resident}
-use Rattle.cta_model.specs.Recalls.{Recall, live_recall, recall_after, recall_goes_on, bears_recall, waits_for, is_empty}
+use Rattle.cta_model.specs.Recalls.{Recall, live_recall, recall_after, recall_goes_on, bears_recall, waits_for}
 use Rattle.cta_model.specs.Jobs.{live_birth, is_live_job}
 use Rattle.cta_model.specs.Queues.{key_of, key_by, sources_of, or_else}
 use Rattle.cta_model.specs.Choice.{tape_for, may_write_on, may_read_from, all_tapes, mount_choice}

@@ -14,9 +14,8 @@ use Rattle.cta_model.specs.declared.answers.Answer.TheVariants as answer
 use Rattle.cta_model.specs.declared.answers.Refusal.TheVariants as refusal
 use Rattle.cta_model.specs.declared.asks.Job.{Job}
 use Rattle.cta_model.specs.declared.asks.Item.{Item}
-use Rattle.cta_model.specs.History.{History, moment_of, last_moment, weight_of, weight_of_entry, has_number}
+use Rattle.cta_model.specs.History.{History, moment_of, last_moment, weight_of, weight_of_entry, has_number, is_empty}
 use Rattle.cta_model.specs.Mounts.{mount_of, open_mounts, open_after, claimed_items, claimed_after, without_jobs, has_job, item_jobs, same_job, is_open, last_batch, batch_in, batch_or}
-use Rattle.cta_model.specs.Recalls.{is_empty}
 use Rattle.cta_model.specs.Answers.{refuse, answer_of, light_answer, is_accepted, may_be_refused_for_weight, is_too_heavy, claims_all, names_twice, is_known, is_last_batch}
 use Rattle.cta_model.specs.Legal.{IsLegal, IsNext, IsFit}
 use Rattle.cta_laws.specs.Lengths.{StaysShort, MomentsNeverFall}

@@ -21,4 +21,5 @@ mod StageLaw
 mod RangeLaw
 mod StandLaw
 mod KeyLaw
+mod PoolLaw
 mod JobLaw

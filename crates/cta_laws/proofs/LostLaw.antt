@@ -19,19 +19,18 @@ use Rattle.cta_model.specs.declared.asks.Item.{Item}
 use Rattle.cta_model.specs.declared.asks.Wanted.{Wanted}
 use Rattle.cta_model.specs.declared.states.Mount.{Mount}
 use Rattle.cta_model.specs.declared.states.Candidate.{Candidate}
-use Rattle.cta_model.specs.History.{History, moment_of, has_number, has_text, is_number}
+use Rattle.cta_model.specs.History.{History, moment_of, has_number, has_text, is_number, is_empty}
 use Rattle.cta_model.specs.Files.{live_file, live_after, is_live, path_of, size_of, copies_of_file}
 use Rattle.cta_model.specs.Mounts.{mount_of, is_open, is_down, is_busy, is_mounted, claimed_items, last_batch, item_jobs}
 use Rattle.cta_model.specs.Tapes.{tape_state, is_broken, may_be_repacked, size_of_items}
 use Rattle.cta_model.specs.Places.{copies_flushed, is_taped, was_flushed}
 use Rattle.cta_model.specs.Buffer.{brings_in, lists_evicted, arrival_after, last_arrival, is_resident}
-use Rattle.cta_model.specs.Recalls.{is_empty}
 use Rattle.cta_model.specs.Repacks.{is_repack_live}
 use Rattle.cta_model.specs.Space.{free_space, evictable_size, evictable_files, evicted_for, prefix_of_size, may_be_evicted, resident_files, is_pinned}
 use Rattle.cta_model.specs.Stages.{request_of}
 use Rattle.cta_model.specs.Choice.{mount_choice}
 use Rattle.cta_model.specs.Batches.{batch_of}
-use Rattle.cta_model.specs.Paths.{is_path}
+use Rattle.cta_site.specs.Paths.{is_path}
 use Rattle.cta_model.specs.Answers.{refuse, answer_of, light_answer, is_too_heavy, mounted, batch_answer, claim_by, is_known, is_last_batch, request_answer, live_copies_on}
 use Rattle.cta_model.specs.Legal.{IsLegal, IsNext}
 use Rattle.cta_laws.specs.Localities.{NoFileIsLost}

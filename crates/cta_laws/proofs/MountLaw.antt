@@ -12,12 +12,11 @@ use Rattle.cta_model.specs.declared.answers.Answer.TheVariants as answer
 use Rattle.cta_model.specs.declared.asks.Item.{Item}
 use Rattle.cta_model.specs.declared.states.Mount.{Mount}
 use Rattle.cta_model.specs.declared.states.Place.{Place}
-use Rattle.cta_model.specs.History.{History, has_number}
+use Rattle.cta_model.specs.History.{History, has_number, is_empty}
 use Rattle.cta_model.specs.Files.{is_live}
 use Rattle.cta_model.specs.Mounts.{mount_of, mount_in, tape_by, tape_of_mount, asked_mount, is_open, is_mounted, open_mounts, open_after, claimed_items, claimed_after, item_jobs, last_batch}
 use Rattle.cta_model.specs.Tapes.{tape_items, items_after, tape_state, is_broken}
 use Rattle.cta_model.specs.Places.{place_of, last_flushed, fseq_after, flushed_in}
-use Rattle.cta_model.specs.Recalls.{is_empty}
 use Rattle.cta_model.specs.Answers.{answer_of, is_accepted, is_too_heavy, is_known, is_last_batch, reclaim_answer, live_copies_on}
 use Rattle.cta_model.specs.Legal.{IsLegal, IsNext}
 use Rattle.cta_laws.specs.Mounts.{are_about_others, IsKept, OpenMountStays, TapesAreMountedOnce}

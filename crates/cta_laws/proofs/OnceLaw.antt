@@ -11,12 +11,12 @@ use Rattle.cta_model.specs.declared.answers.Answer.TheVariants as answer
 use Rattle.cta_model.specs.declared.answers.Refusal.TheVariants as refusal
 use Rattle.cta_model.specs.declared.asks.Fate.TheVariants as fate
 use Rattle.cta_model.specs.declared.asks.Job.{Job}
-use Rattle.cta_model.specs.History.{History, has_text, is_number}
+use Rattle.cta_model.specs.History.{History, has_text, is_number, is_empty}
 use Rattle.cta_model.specs.Files.{path_of}
 use Rattle.cta_model.specs.Mounts.{same_job}
 use Rattle.cta_model.specs.Places.{places_of}
 use Rattle.cta_model.specs.Charges.{is_last_charge}
-use Rattle.cta_model.specs.Recalls.{Recall, live_recall, recall_after, recall_goes_on, recall_job, left_with, subscribed, unsubscribed, lives_unless, bears_recall, waits_for, is_empty}
+use Rattle.cta_model.specs.Recalls.{Recall, live_recall, recall_after, recall_goes_on, recall_job, left_with, subscribed, unsubscribed, lives_unless, bears_recall, waits_for}
 use Rattle.cta_model.specs.Jobs.{is_live_job}
 use Rattle.cta_model.specs.Answers.{refuse, answer_of, is_known}
 use Rattle.cta_model.specs.Legal.{IsLegal}

@@ -15,12 +15,11 @@ use Rattle.cta_model.specs.declared.answers.Refusal.TheVariants as refusal
 use Rattle.cta_model.specs.declared.asks.Item.{Item}
 use Rattle.cta_model.specs.declared.asks.Fate.{Fate}
 use Rattle.cta_model.specs.declared.states.Place.{Place}
-use Rattle.cta_model.specs.History.{History, has_number, is_number}
+use Rattle.cta_model.specs.History.{History, has_number, is_number, is_empty}
 use Rattle.cta_model.specs.Files.{live_file, live_after, is_live, path_of, copies_of_file}
 use Rattle.cta_model.specs.Mounts.{tape_of_mount, asked_mount, item_jobs, same_job, is_mounted, last_batch}
 use Rattle.cta_model.specs.Tapes.{tape_items, items_after, tape_state, is_broken}
 use Rattle.cta_model.specs.Places.{place_of, place_after, places_up_to, all_places, has_place_on, fseq_after, is_copy_of, is_done, flushed_in, last_flushed}
-use Rattle.cta_model.specs.Recalls.{is_empty}
 use Rattle.cta_model.specs.Answers.{refuse, answer_of, is_accepted, is_too_heavy, is_known, is_last_batch, same_items, same_item, reclaim_answer, live_copies_on, all_copies_on, copies_on, live_files_in}
 use Rattle.cta_model.specs.Legal.{IsLegal}
 use Rattle.cta_laws.specs.Places.{PlacesStay, PlacesOnTape, is_item_of}

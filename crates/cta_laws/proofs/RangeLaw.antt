@@ -22,16 +22,16 @@ use Rattle.cta_model.specs.declared.asks.Wanted.{Wanted}
 use Rattle.cta_model.specs.declared.states.Mount.{Mount}
 use Rattle.cta_model.specs.declared.states.Place.{Place}
 use Rattle.cta_model.specs.declared.states.Candidate.{Candidate}
-use Rattle.cta_model.specs.History.{History, entry_of, moment_of, has_text, is_number}
+use Rattle.cta_model.specs.History.{History, entry_of, moment_of, has_text, is_number, is_empty}
 use Rattle.cta_model.specs.Files.{live_file, is_live, path_of, path_in, entry_path, copies_of_file}
 use Rattle.cta_model.specs.Mounts.{mount_of, is_open, is_down, is_busy, is_mounted, asked_mount, tape_of_mount, claimed_items, last_batch, item_jobs}
 use Rattle.cta_model.specs.Tapes.{tape_state, is_broken, may_be_repacked}
 use Rattle.cta_model.specs.Places.{place_of, place_after, places_up_to, all_places, last_flushed, fseq_after, flushed_in}
 use Rattle.cta_model.specs.Buffer.{is_resident}
-use Rattle.cta_model.specs.Recalls.{Recall, live_recall, is_empty}
+use Rattle.cta_model.specs.Recalls.{Recall, live_recall}
 use Rattle.cta_model.specs.Space.{free_space, evictable_size, evicted_for}
-use Rattle.cta_model.specs.Paths.{is_path}
-use Rattle.cta_model.specs.Jobs.{archive_birth, archive_after, archive_job, bears_archive, has_copy, items_in, waiting_for, live_birth, is_live_job}
+use Rattle.cta_site.specs.Paths.{is_path}
+use Rattle.cta_model.specs.Jobs.{archive_birth, archive_after, job_of, bears_archive, has_copy, items_in, waiting_for, live_birth, is_live_job}
 use Rattle.cta_model.specs.Repacks.{is_repack_live}
 use Rattle.cta_model.specs.Stages.{request_of}
 use Rattle.cta_model.specs.Choice.{mount_choice}
@@ -62,7 +62,7 @@ retried_range : (site : Site) (h : History) (f n : ℕ) → 1 ≤ f → f ≤ le
 retried_range site h f zero low high fits = tt
 retried_range site h f (suc c) low high fits =
     all_append (InRange site h) (retried_copies site h f c) _ (retried_range site h f c low high (omega arith))
-    (elim (is_failed site h f (suc c)) as (λ b. AllOf (InRange site h) (if b then archive_job (length h + 1) f (suc c) ∷ [] else [])) [ true ↦ ((low, high, fits), tt) | false ↦ tt ])
+    (elim (is_failed site h f (suc c)) as (λ b. AllOf (InRange site h) (if b then job_of (length h + 1) f (suc c) ∷ [] else [])) [ true ↦ ((low, high, fits), tt) | false ↦ tt ])
 
 file_range : (site : Site) (h : History) (o : Option ℕ) → ((f : ℕ) → o ≡ Some f → (1 ≤ f) × (f ≤ length h)) → AllOf (InRange site h) (retried_file site h o)
 file_range site h None within = tt
@@ -108,7 +108,7 @@ PairInRange site h x = InRange site h x.1
 copies_range : (site : Site) (h : History) (v f : ℕ) (ps : List Place) → 1 ≤ f → f ≤ length h → AllOf (λ (p : Place). p.copy ≤ copies_of_file site h f) ps → AllOf (PairInRange site h) (copies_on v f ps)
 copies_range site h v f [] low high all = tt
 copies_range site h v f (p ∷ ps) low high all =
-    elim (p.tape == v) as (λ b. AllOf (PairInRange site h) (if b then (p.fseq, archive_job 0 f p.copy) ∷ copies_on v f ps else copies_on v f ps))
+    elim (p.tape == v) as (λ b. AllOf (PairInRange site h) (if b then (p.fseq, job_of 0 f p.copy) ∷ copies_on v f ps else copies_on v f ps))
     [ true ↦ ((low, high, all.0), copies_range site h v f ps low high all.1) | false ↦ copies_range site h v f ps low high all.1 ]
 
 files_range : (site : Site) (h : History) (v : ℕ) (fs : List ℕ) → AllOf (λ f. (1 ≤ f) × (f ≤ length h)) fs → AllOf (PairInRange site h) (all_copies_on site h v fs)
@@ -258,7 +258,7 @@ newest_path e h = ap entry_path newest
     newest = rw (eq-eqb (length h + 1) (length h + 1) refl) refl
 
 file_older : (site : Site) (e : Entry) (h : History) (f c : ℕ) → FileRange site h f c → FileRange site (e ∷ h) f c
-file_older site e h f c r = range_older site e h (archive_job 0 f c) r
+file_older site e h f c r = range_older site e h (job_of 0 f c) r
 
 bears_range : (site : Site) (h : History) (e : Entry) (f c : ℕ) (k : Ask) (a : Answer) → IsLegal site h → e.ask ≡ k → a ≡ answer_of site h e.at k → bears_archive site h k a f c ≡ true → FileRange site (e ∷ h) f c
 unfolding jobs_in

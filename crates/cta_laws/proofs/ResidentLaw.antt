@@ -14,14 +14,14 @@ use Rattle.cta_model.specs.declared.answers.Answer.TheVariants as answer
 use Rattle.cta_model.specs.declared.answers.Refusal.TheVariants as refusal
 use Rattle.cta_model.specs.declared.asks.Fate.TheVariants as fate
 use Rattle.cta_model.specs.declared.states.Place.{Place}
-use Rattle.cta_model.specs.History.{History, is_number, moment_of}
+use Rattle.cta_model.specs.History.{History, is_number, moment_of, is_empty}
 use Rattle.cta_model.specs.Files.{live_file, live_after, is_live, path_of, copies_of_file}
 use Rattle.cta_model.specs.Tapes.{is_broken, tape_state}
 use Rattle.cta_model.specs.Places.{places_of, places_up_to}
 use Rattle.cta_model.specs.Buffer.{brings_in, lists_evicted, arrival_after, last_arrival, is_resident}
-use Rattle.cta_model.specs.Recalls.{Recall, live_recall, recall_after, recall_goes_on, recall_job, bears_recall, waits_for, lives_unless, is_empty}
+use Rattle.cta_model.specs.Recalls.{Recall, live_recall, recall_after, recall_goes_on, recall_job, bears_recall, waits_for, lives_unless}
 use Rattle.cta_model.specs.Space.{free_space, evictable_size, evicted_for}
-use Rattle.cta_model.specs.Paths.{is_path}
+use Rattle.cta_site.specs.Paths.{is_path}
 use Rattle.cta_model.specs.Answers.{refuse, answer_of, is_accepted, is_too_heavy, put_answer}
 use Rattle.cta_model.specs.Legal.{IsLegal, IsNext}
 use Rattle.cta_laws.specs.Recalls.{RecalledIsResident, completes}

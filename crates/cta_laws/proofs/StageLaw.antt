@@ -9,11 +9,11 @@ use Rattle.cta_model.specs.declared.asks.Job.{Job}
 use Rattle.cta_model.specs.declared.reports.FileState.{FileState}
 use Rattle.cta_model.specs.declared.reports.FileState.TheVariants as file
 use Rattle.cta_model.specs.declared.states.StageFile.{StageFile}
-use Rattle.cta_model.specs.History.{History, last_moment}
+use Rattle.cta_model.specs.History.{History, last_moment, is_empty}
 use Rattle.cta_model.specs.Files.{live_file}
 use Rattle.cta_model.specs.Places.{places_of}
 use Rattle.cta_model.specs.Buffer.{is_resident}
-use Rattle.cta_model.specs.Recalls.{is_empty, live_recall, recall_job}
+use Rattle.cta_model.specs.Recalls.{live_recall, recall_job}
 use Rattle.cta_model.specs.Stages.{stage_file, path_at_stage, file_at_stage, waiting, birth_or_none, was_claimed, after_recall, cancels, releases, is_born_by, claim_names, first_start, waiting_after, waits_after, file_after, released_if}
 use Rattle.cta_model.specs.Legal.{IsLegal}
 use Rattle.cta_laws.specs.Stages.{FinishesAfterStart}

@@ -15,7 +15,7 @@ use Rattle.cta_model.specs.History.{History, has_number, is_number}
 use Rattle.cta_model.specs.Files.{copies_of_file}
 use Rattle.cta_model.specs.Mounts.{claimer_of, is_open, same_job, has_job, item_jobs, claimed_items, open_mounts}
 use Rattle.cta_model.specs.Recalls.{Recall, live_recall, recall_after, recall_goes_on, bears_recall}
-use Rattle.cta_model.specs.Jobs.{jobs_born, newly_born, born_files, born_copies, born_copy, may_bear, live_birth, live_jobs, is_live_job, archive_job, archive_birth, archive_after, bears_archive, ends_archive}
+use Rattle.cta_model.specs.Jobs.{jobs_born, newly_born, born_files, born_copies, born_copy, may_bear, live_birth, live_jobs, is_live_job, job_of, archive_birth, archive_after, bears_archive, ends_archive}
 use Rattle.cta_model.specs.Queues.{queue_of, stands_in}
 use Rattle.cta_model.specs.Legal.{IsLegal}
 use Rattle.cta_laws.specs.Jobs.{claims, count_job}
@@ -88,15 +88,15 @@ count_filter j test (x ∷ xs) =
 not_same : (j k : Job) → (j ≡ k → ⊥) → same_job j k ≡ false
 not_same j k other = elim (bool_cases (same_job j k)) [ inl hit ↦ absurd (other (same_job_eq j k hit)) | inr miss ↦ miss ]
 
-one_miss : (site : Site) (h : History) (j : Job) (b f c : ℕ) → same_job j (archive_job b f c) ≡ false → count_job j (born_copy site h b f c) ≡ 0
-one_miss site h j b f c d = elim (is_number b (live_birth site h f c)) as (λ t. count_job j (if t then archive_job b f c ∷ [] else []) ≡ 0) [ true ↦ rw d refl | false ↦ refl ]
+one_miss : (site : Site) (h : History) (j : Job) (b f c : ℕ) → same_job j (job_of b f c) ≡ false → count_job j (born_copy site h b f c) ≡ 0
+one_miss site h j b f c d = elim (is_number b (live_birth site h f c)) as (λ t. count_job j (if t then job_of b f c ∷ [] else []) ≡ 0) [ true ↦ rw d refl | false ↦ refl ]
 
-copies_miss : (site : Site) (h : History) (j : Job) (b f n : ℕ) → ((c : ℕ) → c ≤ n → same_job j (archive_job b f c) ≡ false) → count_job j (born_copies site h b f n) ≡ 0
+copies_miss : (site : Site) (h : History) (j : Job) (b f n : ℕ) → ((c : ℕ) → c ≤ n → same_job j (job_of b f c) ≡ false) → count_job j (born_copies site h b f n) ≡ 0
 copies_miss site h j b f zero d = one_miss site h j b f 0 (d 0 (omega arith))
 copies_miss site h j b f (suc c) d =
     omega (arith, count_append j (born_copies site h b f c) (born_copy site h b f (suc c)), copies_miss site h j b f c (λ k low. d k (omega arith)), one_miss site h j b f (suc c) (d (suc c) (omega arith)))
 
-files_miss : (site : Site) (h : History) (j : Job) (b n : ℕ) → ((f c : ℕ) → f ≤ n → same_job j (archive_job b f c) ≡ false) → count_job j (born_files site h b n) ≡ 0
+files_miss : (site : Site) (h : History) (j : Job) (b n : ℕ) → ((f c : ℕ) → f ≤ n → same_job j (job_of b f c) ≡ false) → count_job j (born_files site h b n) ≡ 0
 files_miss site h j b zero d = refl
 files_miss site h j b (suc f) d =
     omega (arith, count_append j (born_files site h b f) (born_copies site h b (suc f) (copies_of_file site h (suc f))), files_miss site h j b f (λ k c low. d k c (omega arith)), copies_miss site h j b (suc f) (copies_of_file site h (suc f)) (λ c low. d (suc f) c (omega arith)))
@@ -104,14 +104,14 @@ files_miss site h j b (suc f) d =
 one_hit : (site : Site) (h : History) (j : Job) → is_live_job site h j ≡ true → count_job j (born_copy site h j.birth j.file j.copy) ≡ 1
 one_hit site h j live = rw live (rw (job_self j) refl)
 
-file_differs : (j : Job) (b f c : ℕ) → (j.file ≡ f → ⊥) → same_job j (archive_job b f c) ≡ false
-file_differs j b f c d = not_same j (archive_job b f c) (λ e. d (ap (λ (x : Job). x.file) e))
+file_differs : (j : Job) (b f c : ℕ) → (j.file ≡ f → ⊥) → same_job j (job_of b f c) ≡ false
+file_differs j b f c d = not_same j (job_of b f c) (λ e. d (ap (λ (x : Job). x.file) e))
 
-copy_differs : (j : Job) (b f c : ℕ) → (j.copy ≡ c → ⊥) → same_job j (archive_job b f c) ≡ false
-copy_differs j b f c d = not_same j (archive_job b f c) (λ e. d (ap (λ (x : Job). x.copy) e))
+copy_differs : (j : Job) (b f c : ℕ) → (j.copy ≡ c → ⊥) → same_job j (job_of b f c) ≡ false
+copy_differs j b f c d = not_same j (job_of b f c) (λ e. d (ap (λ (x : Job). x.copy) e))
 
-birth_differs : (j : Job) (b f c : ℕ) → (j.birth ≡ b → ⊥) → same_job j (archive_job b f c) ≡ false
-birth_differs j b f c d = not_same j (archive_job b f c) (λ e. d (ap (λ (x : Job). x.birth) e))
+birth_differs : (j : Job) (b f c : ℕ) → (j.birth ≡ b → ⊥) → same_job j (job_of b f c) ≡ false
+birth_differs j b f c d = not_same j (job_of b f c) (λ e. d (ap (λ (x : Job). x.birth) e))
 
 copies_hit : (site : Site) (h : History) (j : Job) (n : ℕ) → is_live_job site h j ≡ true → j.copy ≤ n → count_job j (born_copies site h j.birth j.file n) ≡ 1
 copies_hit site h j zero live low =
@@ -181,7 +181,7 @@ archive_new site h e f c b None d on =
     elim (bool_cases (bears_archive site h e.ask e.answer f c))
     [ inl t ↦ archive_bears site h e.ask e.answer f c t | inr t ↦ (let bad : false ≡ true = rw t at on in absurd (cc)) ]
 archive_new site h e f c b (Some birth) d on =
-    elim (bool_cases (ends_archive site h e.ask e.answer (archive_job birth f c)))
+    elim (bool_cases (ends_archive site h e.ask e.answer (job_of birth f c)))
     [ inl t ↦ (let bad : false ≡ true = rw t at on in absurd (cc)) | inr t ↦ (let bad : is_number b (Some birth) ≡ true = rw t at on in absurd (cc)) ]
 
 birth_new : (site : Site) (h : History) (e : Entry) (f c b : ℕ) → is_number b (live_birth site h f c) ≡ false → is_number b (live_birth site (e ∷ h) f c) ≡ true → may_bear e.ask ≡ true

@@ -1,6 +1,7 @@
 -- Laws of jobs.
-use Rattle.std.specs.Prelude.{ℕ, ◌+◌, ◌≡◌, ◌<◌, length, List, [], ◌∷◌, ◌++◌, Some, IsSome, Bool, true, false, if◌then◌else◌, ◌⊎◌}
+use Rattle.std.specs.Prelude.{ℕ, ◌+◌, ◌≡◌, ◌<◌, ◌≤◌, length, List, [], ◌∷◌, ◌++◌, Some, IsSome, Bool, true, false, if◌then◌else◌, ◌⊎◌}
 use Rattle.cta_site.specs.declared.site.Site.{Site}
+use Rattle.cta_site.specs.ValidSite.{IsValidSite}
 use Rattle.cta_model.specs.declared.entries.Entry.{Entry}
 use Rattle.cta_model.specs.declared.asks.Job.{Job}
 use Rattle.cta_model.specs.History.{History}
@@ -58,3 +59,9 @@ IsQueuedOrClaimed = (site : Site) (h : History) → IsLegal site h → (j : Job)
 -- in a legal history the key of a recall is a tape of the site
 abbrev pub RecallKeyIsTape : Type 0
 RecallKeyIsTape = (site : Site) (h : History) → IsLegal site h → (j : Job) (key : ℕ) → j.copy ≡ 0 → key_of site h j ≡ Some key → key < length site.tapes.items
+
+-- in a legal history of a valid site the key of a live archive job is a pool of the site
+abbrev pub ArchiveKeyIsPool : Type 0
+ArchiveKeyIsPool =
+    (site : Site) (h : History) → IsValidSite site → IsLegal site h → (j : Job) (key : ℕ) → 1 ≤ j.copy → is_live_job site h j ≡ true → key_of site h j ≡ Some key
+    → key < length site.pools.items

@@ -13,7 +13,7 @@ use Rattle.cta_model.specs.Files.{live_file, is_live, copies_of_file}
 use Rattle.cta_model.specs.Buffer.{is_resident}
 use Rattle.cta_model.specs.Places.{flushed_in, is_copy_of}
 use Rattle.cta_model.specs.Localities.{locality_of}
-use Rattle.cta_model.specs.Answers.{look_answer_of}
+use Rattle.cta_model.specs.Looks.{look_answer_of}
 use Rattle.cta_model.specs.Legal.{IsLegal}
 
 -- some entry flushed this copy of the file with fate Done

@@ -1,5 +1,7 @@
 // Laws of jobs.
-ghost use Rattle.cta_laws.specs.Jobs.{ClaimedOnce, EndsForGood, IsQueuedOrClaimed, NoClaimAfterEnd, RecallKeyIsTape};
+ghost use Rattle.cta_laws.specs.Jobs.{ArchiveKeyIsPool, ClaimedOnce, EndsForGood, IsQueuedOrClaimed, NoClaimAfterEnd, RecallKeyIsTape};
+
+use cta_site::numbers_are_known;
 
 /// A job that has ended is live no more. This project's own.
 pub fn ends_for_good()
@@ -26,3 +28,10 @@ pub fn is_queued_or_claimed()
 pub fn recall_key_is_tape()
     ensures { RecallKeyIsTape }
 {}
+
+/// The key of a live archive job is a pool of the site, where the site is valid. This project's own.
+pub fn archive_key_is_pool()
+    ensures { ArchiveKeyIsPool }
+{
+    numbers_are_known();
+}

@@ -13,7 +13,8 @@ mod space;
 mod stages;
 
 pub use jobs::{
-    claimed_once, ends_for_good, is_queued_or_claimed, no_claim_after_end, recall_key_is_tape,
+    archive_key_is_pool, claimed_once, ends_for_good, is_queued_or_claimed, no_claim_after_end,
+    recall_key_is_tape,
 };
 pub use lengths::{moments_never_fall, stays_short};
 pub use localities::{no_file_is_lost, tape_is_flushed, told_tape_is_flushed};

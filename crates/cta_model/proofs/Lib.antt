@@ -1,3 +1,3 @@
 pub mod Newest
 pub mod Appends
-mod Worked
+pub mod Runs

@@ -1,13 +1,11 @@
--- The sequential archive: what each ask and each look is answered.
-use Rattle.std.specs.Prelude.{ℕ, zero, suc, ◌+◌, length, List, [], ◌∷◌, ◌++◌, Option, Some, None, is_none, is_some, Bool, true, false, if◌then◌else◌, ◌==◌, ◌&&◌, ◌||◌, not, map, nat_le, nat_lt, bytes_eq, codes}
+-- The sequential archive: what each ask is answered.
+use Rattle.std.specs.Prelude.{ℕ, zero, suc, ◌+◌, length, List, [], ◌∷◌, ◌++◌, Option, Some, None, is_none, is_some, Bool, true, false, if◌then◌else◌, ◌==◌, ◌&&◌, ◌||◌, not, map, nat_le, nat_lt, bytes_eq}
 use Rattle.std.specs.List.{list_any, list_all}
 use Rattle.cta_site.specs.declared.site.Site.{Site}
 use Rattle.cta_site.specs.Listed.{rows}
 use Rattle.cta_site.specs.Lookups.{class_of}
 use Rattle.cta_model.specs.declared.asks.Ask.{Ask}
 use Rattle.cta_model.specs.declared.asks.Ask.TheVariants as ask
-use Rattle.cta_model.specs.declared.asks.Look.{Look}
-use Rattle.cta_model.specs.declared.asks.Look.TheVariants as look
 use Rattle.cta_model.specs.declared.answers.Answer.{Answer}
 use Rattle.cta_model.specs.declared.answers.Answer.TheVariants as answer
 use Rattle.cta_model.specs.declared.answers.Refusal.{Refusal}
@@ -19,25 +17,21 @@ use Rattle.cta_model.specs.declared.asks.Direction.TheVariants as direction
 use Rattle.cta_model.specs.declared.asks.Job.{Job}
 use Rattle.cta_model.specs.declared.asks.Item.{Item}
 use Rattle.cta_model.specs.declared.asks.Wanted.{Wanted}
-use Rattle.cta_model.specs.declared.reports.PlaceInfo.{PlaceInfo}
 use Rattle.cta_model.specs.declared.states.Mount.{Mount}
 use Rattle.cta_model.specs.declared.states.Place.{Place}
 use Rattle.cta_model.specs.declared.states.Candidate.{Candidate}
-use Rattle.cta_model.specs.History.{History, next_number, moment_of, weight_of, weight_of_entry, has_text}
-use Rattle.cta_model.specs.Files.{live_file, is_live, sum_of, copies_of_file}
+use Rattle.cta_model.specs.History.{History, next_number, moment_of, weight_of, weight_of_entry, has_text, is_empty}
+use Rattle.cta_model.specs.Files.{live_file, is_live, copies_of_file}
 use Rattle.cta_model.specs.Mounts.{mount_of, is_open, is_mounted, is_busy, is_down, claimed_items, last_batch, item_jobs, has_job, same_job}
 use Rattle.cta_model.specs.Tapes.{tape_state, is_broken, may_be_repacked, size_of_items}
 use Rattle.cta_model.specs.Places.{all_places, was_flushed}
-use Rattle.cta_model.specs.Buffer.{is_resident}
-use Rattle.cta_model.specs.Recalls.{is_empty}
-use Rattle.cta_model.specs.Jobs.{is_live_job, live_birth, archive_job}
+use Rattle.cta_model.specs.Jobs.{is_live_job, live_birth, job_of}
 use Rattle.cta_model.specs.Stages.{request_of}
 use Rattle.cta_model.specs.Repacks.{is_repack_live}
 use Rattle.cta_model.specs.Space.{free_space, evictable_size, evicted_for}
 use Rattle.cta_model.specs.Choice.{mount_choice}
 use Rattle.cta_model.specs.Batches.{batch_of}
-use Rattle.cta_model.specs.Localities.{locality_of}
-use Rattle.cta_model.specs.Paths.{is_path}
+use Rattle.cta_site.specs.Paths.{is_path}
 
 -- the refusal where the test holds, and otherwise the answer
 abbrev pub refuse : Refusal → Bool → Answer → Answer
@@ -176,7 +170,7 @@ live_files h = live_files_in h h
 -- a copy that has a place on a tape: its fSeq, and the copy as a job with birth 0
 abbrev pub copies_on : ℕ → ℕ → List Place → List (ℕ × Job)
 copies_on v f [] = []
-copies_on v f (p ∷ ps) = if p.tape == v then (p.fseq, archive_job 0 f p.copy) ∷ copies_on v f ps else copies_on v f ps
+copies_on v f (p ∷ ps) = if p.tape == v then (p.fseq, job_of 0 f p.copy) ∷ copies_on v f ps else copies_on v f ps
 
 -- the copies of these files that have a place on a tape, file by file
 abbrev pub all_copies_on : Site → History → ℕ → List ℕ → List (ℕ × Job)
@@ -222,7 +216,7 @@ is_failed site h f c = not (was_flushed h f c) && is_none (live_birth site h f c
 -- the jobs that a Retry bears for a file: one for each of its failed copies from 1 to n
 abbrev pub retried_copies : Site → History → ℕ → ℕ → List Job
 retried_copies site h f zero = []
-retried_copies site h f (suc c) = retried_copies site h f c ++ (if is_failed site h f (suc c) then archive_job (next_number h) f (suc c) ∷ [] else [])
+retried_copies site h f (suc c) = retried_copies site h f c ++ (if is_failed site h f (suc c) then job_of (next_number h) f (suc c) ∷ [] else [])
 
 -- the jobs that a Retry bears for what a path names, none where it names no file
 abbrev pub retried_file : Site → History → Option ℕ → List Job
@@ -290,29 +284,6 @@ weighed site h k a = refuse refusal.HistoryFull (is_too_heavy site h k a) a
 abbrev pub answer_of : Site → History → ℕ → Ask → Answer
 answer_of site h t k = weighed site h k (light_answer site h (moment_of h t) k)
 
--- ---- looks
-
--- what is told of a path: the locality of the file that it names, and an error where it names none
-abbrev pub place_info : Site → History → List ℕ → Option ℕ → PlaceInfo
-place_info site h path None = record { path = path; locality = None; error = Some (codes "no such file") }
-place_info site h path (Some f) = record { path = path; locality = Some (locality_of site h f); error = None }
-
--- what is told of paths, in the order asked, repeats kept
-abbrev pub place_infos : Site → History → List (List ℕ) → List PlaceInfo
-place_infos site h paths = map (λ path. place_info site h path (live_file h path)) paths
-
--- a Fetch is told the length and SHA-256 of its file where the file is resident, and is refused otherwise
-abbrev pub fetch_by : History → Option ℕ → Answer
-fetch_by h None = answer.Refused refusal.NoFile
-fetch_by h (Some f) = refuse refusal.NotResident (not (is_resident h f)) (answer.Bytes (sum_of h f))
-
--- the answer to a look that is given this moment, on this history; the reports of requests, repacks, failed copies, tapes and
--- queues are not stated yet
-abbrev pub look_answer_of : Site → History → ℕ → Look → Answer
-look_answer_of site h t (look.ArchiveInfo paths) = answer.Places (rows (place_infos site h paths.items))
-look_answer_of site h t (look.Fetch path) = fetch_by h (live_file h path)
-look_answer_of site h t _ = answer.Refused refusal.NotBuilt
-
 -- ---- as far as built
 
 -- the asks that are served
@@ -320,15 +291,6 @@ abbrev pub is_built : Ask → Bool
 is_built (ask.Put who path sum) = true
 is_built _ = false
 
--- the looks that are served
-abbrev pub is_built_look : Look → Bool
-is_built_look (look.ArchiveInfo paths) = true
-is_built_look _ = false
-
 -- what is served: the answer of the sequential archive where the ask is built, and otherwise the refusal NotBuilt, before every other
 abbrev pub served_answer : Site → History → ℕ → Ask → Answer
 served_answer site h t k = refuse refusal.NotBuilt (not (is_built k)) (answer_of site h t k)
-
--- the same for a look: its answer where the look is built, and otherwise the refusal NotBuilt, before every other
-abbrev pub served_look : Site → History → ℕ → Look → Answer
-served_look site h t k = refuse refusal.NotBuilt (not (is_built_look k)) (look_answer_of site h t k)

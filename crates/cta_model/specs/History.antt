@@ -1,5 +1,5 @@
 -- The history, newest entry first. The oldest entry has number 1, so the number of an entry is 1 plus how many are older.
-use Rattle.std.specs.Prelude.{ℕ, ◌+◌, max, length, List, [], ◌∷◌, Option, Some, None, Bool, false, if◌then◌else◌, ◌==◌, bytes_eq}
+use Rattle.std.specs.Prelude.{ℕ, ◌+◌, max, length, List, [], ◌∷◌, Option, Some, None, Bool, true, false, if◌then◌else◌, ◌==◌, bytes_eq}
 use Rattle.std.specs.List.{list_any}
 use Rattle.cta_model.specs.declared.entries.Entry.{Entry}
 use Rattle.cta_model.specs.declared.asks.Ask.{Ask}
@@ -26,6 +26,11 @@ entry_of (e ∷ h) n = if n == next_number h then Some e else entry_of h n
 abbrev pub last_moment : History → ℕ
 last_moment [] = 0
 last_moment (e ∷ h) = e.at
+
+-- the moment of an entry, 0 where there is no entry
+abbrev pub moment_by : Option Entry → ℕ
+moment_by None = 0
+moment_by (Some e) = e.at
 
 -- the moment of a call that is given this one: moments never fall
 abbrev pub moment_of : History → ℕ → ℕ
@@ -75,3 +80,8 @@ has_number n numbers = list_any (λ m. n == m) numbers
 -- whether the text is in the list
 abbrev pub has_text : List ℕ → List (List ℕ) → Bool
 has_text text texts = list_any (λ t. bytes_eq text t) texts
+
+-- whether the list has no element
+abbrev pub is_empty : {A : Type 0} → List A → Bool
+is_empty [] = true
+is_empty (x ∷ xs) = false

@@ -22,22 +22,23 @@ use Rattle.cta_model.specs.Recalls.{Recall, live_recall, waits_for}
 
 -- ---- archive jobs
 
--- the job of this birth for a copy of a file, an archive job where the copy is not 0
-abbrev pub archive_job : ℕ → ℕ → ℕ → Job
-archive_job birth f c = record { birth = birth; file = f; copy = c }
+-- the job of this birth for a copy of a file, where copy 0 is its recall
+abbrev pub job_of : ℕ → ℕ → ℕ → Job
+job_of birth f c = record { birth = birth; file = f; copy = c }
 
 -- whether the copy of the file is among these jobs, whatever their birth
 abbrev pub has_copy : ℕ → ℕ → List Job → Bool
 has_copy f c jobs = list_any (λ (j : Job). j.file == f && j.copy == c) jobs
 
+-- the items that the answer to a Repack names, none for any other answer
+abbrev pub items_named : Answer → List Job
+items_named (answer.Repacking id items) = items.items
+items_named _ = []
+
 -- the items of the repack that an entry makes, none where there is no entry or it makes no repack
 abbrev pub items_in : Option Entry → List Job
 items_in None = []
-items_in (Some e) = repacked e.answer
-  where
-    repacked : Answer → List Job
-    repacked (answer.Repacking id items) = items.items
-    repacked _ = []
+items_in (Some e) = items_named e.answer
 
 -- the entries that wait for a recall, none where there is no recall
 abbrev pub waiting_for : Option Recall → List ℕ
@@ -67,7 +68,7 @@ ends_archive site h _ a j = false
 -- the birth of a copy's live archive job after the entry e: where none was live, e may bear one; where one was, e may end it
 abbrev pub archive_after : Site → History → Entry → ℕ → ℕ → Option ℕ → Option ℕ
 archive_after site h e f c None = if bears_archive site h e.ask e.answer f c then Some (next_number h) else None
-archive_after site h e f c (Some birth) = if ends_archive site h e.ask e.answer (archive_job birth f c) then None else Some birth
+archive_after site h e f c (Some birth) = if ends_archive site h e.ask e.answer (job_of birth f c) then None else Some birth
 
 -- the birth of the live archive job of a copy
 abbrev pub archive_birth : Site → History → ℕ → ℕ → Option ℕ
@@ -87,7 +88,7 @@ is_live_job site h j = is_number j.birth (live_birth site h j.file j.copy)
 
 -- the live job of a copy of a file where it has this birth, and none otherwise; copy 0 is the recall
 abbrev pub born_copy : Site → History → ℕ → ℕ → ℕ → List Job
-born_copy site h birth f c = if is_number birth (live_birth site h f c) then archive_job birth f c ∷ [] else []
+born_copy site h birth f c = if is_number birth (live_birth site h f c) then job_of birth f c ∷ [] else []
 
 -- the jobs of this birth of a file's recall and its copies from 1 to n
 abbrev pub born_copies : Site → History → ℕ → ℕ → ℕ → List Job

@@ -16,8 +16,9 @@ pub mod Queues
 pub mod Choice
 pub mod Batches
 pub mod Localities
-pub mod Paths
 pub mod Answers
+pub mod Reports
+pub mod Looks
 pub mod Legal
 pub mod Kept
 pub mod Newest

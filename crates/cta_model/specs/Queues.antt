@@ -1,13 +1,12 @@
 -- Queues. The key of an archive queue is a pool, that of a recall queue is a tape.
-use Rattle.std.specs.Prelude.{ℕ, zero, suc, ◌%◌, length, List, [], ◌∷◌, Option, Some, None, option_map, is_none, Bool, ◌&&◌, filter, sum_by, min, max, map, slice_get}
+use Rattle.std.specs.Prelude.{ℕ, zero, suc, ◌%◌, length, List, [], ◌∷◌, Option, option_map, is_none, Bool, ◌&&◌, filter, sum_by, min, max, map, slice_get}
 use Rattle.cta_site.specs.declared.site.Site.{Site}
 use Rattle.cta_site.specs.Lookups.{pool_of, class_of}
-use Rattle.cta_model.specs.declared.entries.Entry.{Entry}
 use Rattle.cta_model.specs.declared.asks.Direction.{Direction}
 use Rattle.cta_model.specs.declared.asks.Direction.TheVariants as direction
 use Rattle.cta_model.specs.declared.asks.Job.{Job}
 use Rattle.cta_model.specs.declared.states.Place.{Place}
-use Rattle.cta_model.specs.History.{History, entry_of, is_number}
+use Rattle.cta_model.specs.History.{History, entry_of, moment_by, is_number}
 use Rattle.cta_model.specs.Files.{path_of, size_of}
 use Rattle.cta_model.specs.Mounts.{claimer_of, same_direction}
 use Rattle.cta_model.specs.Tapes.{tape_state, may_be_read}
@@ -85,11 +84,6 @@ queue_priority site h way q = highest (map (λ j. priority_in way (policy_of sit
 -- a queue's least age: the least of its jobs' minimum ages
 abbrev pub queue_age : Site → History → Direction → List Job → ℕ
 queue_age site h way q = least (map (λ j. age_in way (policy_of site h j)) q)
-
--- the moment of an entry, 0 where there is no entry
-abbrev pub moment_by : Option Entry → ℕ
-moment_by None = 0
-moment_by (Some e) = e.at
 
 -- the moment of a job's birth
 abbrev pub born_at : History → Job → ℕ

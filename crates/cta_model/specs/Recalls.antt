@@ -10,7 +10,7 @@ use Rattle.cta_model.specs.declared.answers.Answer.TheVariants as answer
 use Rattle.cta_model.specs.declared.asks.Fate.TheVariants as fate
 use Rattle.cta_model.specs.declared.asks.Job.{Job}
 use Rattle.cta_model.specs.declared.asks.Wanted.{Wanted}
-use Rattle.cta_model.specs.History.{History, next_number, is_number, has_text}
+use Rattle.cta_model.specs.History.{History, next_number, is_number, has_text, is_empty}
 use Rattle.cta_model.specs.Files.{live_file, path_of}
 use Rattle.cta_model.specs.Mounts.{same_job}
 use Rattle.cta_model.specs.Places.{places_of, has_place_on}
@@ -25,11 +25,6 @@ pub record Recall : Type 0 where
 -- the recall of a file as a job: its copy is 0
 abbrev pub recall_job : ℕ → ℕ → Job
 recall_job birth f = record { birth = birth; file = f; copy = 0 }
-
--- whether the list has no element
-abbrev pub is_empty : {A : Type 0} → List A → Bool
-is_empty [] = true
-is_empty (x ∷ xs) = false
 
 -- whether one of these paths names the file
 abbrev pub names_file : History → ℕ → List Wanted → Bool

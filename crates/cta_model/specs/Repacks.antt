@@ -4,14 +4,12 @@ use Rattle.std.specs.List.{list_any}
 use Rattle.cta_site.specs.declared.site.Site.{Site}
 use Rattle.cta_model.specs.declared.asks.Ask.{Ask}
 use Rattle.cta_model.specs.declared.asks.Ask.TheVariants as ask
-use Rattle.cta_model.specs.declared.answers.Answer.{Answer}
-use Rattle.cta_model.specs.declared.answers.Answer.TheVariants as answer
 use Rattle.cta_model.specs.declared.reports.ItemState.{ItemState}
 use Rattle.cta_model.specs.declared.reports.ItemState.TheVariants as item
 use Rattle.cta_model.specs.declared.asks.Job.{Job}
 use Rattle.cta_model.specs.History.{History, next_number}
 use Rattle.cta_model.specs.Buffer.{is_resident}
-use Rattle.cta_model.specs.Jobs.{live_birth}
+use Rattle.cta_model.specs.Jobs.{live_birth, items_named}
 
 -- an item that was READING: it is so while its recall is live, and is WRITING once the file was recalled
 abbrev pub after_reading : Bool → Ask → ItemState
@@ -48,11 +46,6 @@ is_live_item item.Reading = true
 is_live_item item.Writing = true
 is_live_item _ = false
 
--- the items of a Repack, each as a job with birth 0
-abbrev pub repack_items_in : Ask → Answer → List Job
-repack_items_in (ask.Repack who v) (answer.Repacking id items) = items.items
-repack_items_in _ _ = []
-
 -- whether an ask is a Repack of this tape
 abbrev pub repacks_tape : ℕ → Ask → Bool
 repacks_tape v (ask.Repack who k) = k == v
@@ -65,7 +58,7 @@ has_live_item site h id test jobs = list_any (λ (j : Job). test j && is_live_it
 -- whether a repack of the tape made by one of the older entries is live, where h is the whole history
 abbrev pub repack_live_in : Site → History → ℕ → History → Bool
 repack_live_in site h v [] = false
-repack_live_in site h v (e ∷ older) = (repacks_tape v e.ask && has_live_item site h (next_number older) (λ j. true) (repack_items_in e.ask e.answer)) || repack_live_in site h v older
+repack_live_in site h v (e ∷ older) = (repacks_tape v e.ask && has_live_item site h (next_number older) (λ j. true) (items_named e.answer)) || repack_live_in site h v older
 
 -- a repack of a tape is live while one of its items is
 abbrev pub is_repack_live : Site → History → ℕ → Bool
@@ -74,4 +67,4 @@ is_repack_live site h v = repack_live_in site h v h
 -- whether a live item of a repack made by one of the older entries is of the file, where h is the whole history
 abbrev pub repack_pins : Site → History → ℕ → History → Bool
 repack_pins site h f [] = false
-repack_pins site h f (e ∷ older) = has_live_item site h (next_number older) (λ (j : Job). j.file == f) (repack_items_in e.ask e.answer) || repack_pins site h f older
+repack_pins site h f (e ∷ older) = has_live_item site h (next_number older) (λ (j : Job). j.file == f) (items_named e.answer) || repack_pins site h f older

@@ -5,13 +5,12 @@ use Rattle.cta_model.specs.declared.asks.Ask.{Ask}
 use Rattle.cta_model.specs.declared.asks.Ask.TheVariants as ask
 use Rattle.cta_model.specs.declared.asks.Direction.TheVariants as direction
 use Rattle.cta_model.specs.declared.states.Mount.{Mount}
-use Rattle.cta_model.specs.History.{History, next_number, is_number}
+use Rattle.cta_model.specs.History.{History, next_number, is_number, is_empty}
 use Rattle.cta_model.specs.Files.{size_of, copies_of_file}
 use Rattle.cta_model.specs.Mounts.{open_where, claimed_items, same_direction}
 use Rattle.cta_model.specs.Tapes.{size_of_items}
 use Rattle.cta_model.specs.Places.{is_taped, places_of}
 use Rattle.cta_model.specs.Buffer.{arrival_of}
-use Rattle.cta_model.specs.Recalls.{is_empty}
 use Rattle.cta_model.specs.Jobs.{archive_birth}
 use Rattle.cta_model.specs.Stages.{stage_pins}
 use Rattle.cta_model.specs.Repacks.{repack_pins}

@@ -1,9 +1,8 @@
 -- Stage requests. A request is named by the number of its Stage entry.
-use Rattle.std.specs.Prelude.{ℕ, ◌+◌, List, [], ◌∷◌, ◌++◌, Option, Some, None, Bool, true, false, if◌then◌else◌, ◌==◌, ◌&&◌, ◌||◌, not, nat_lt, codes, slice_get, unwrap_or, map}
+use Rattle.std.specs.Prelude.{ℕ, ◌+◌, List, [], ◌∷◌, ◌++◌, Option, Some, None, Bool, true, false, if◌then◌else◌, ◌==◌, ◌&&◌, ◌||◌, not, nat_lt, codes, unwrap_or, map}
 use Rattle.std.specs.List.{list_any}
 use Rattle.cta_site.specs.declared.site.Site.{Site}
-use Rattle.cta_site.specs.declared.site.Tape.{Tape}
-use Rattle.cta_site.specs.declared.site.Drive.{Drive}
+use Rattle.cta_site.specs.Lookups.{drive_name, vid_of}
 use Rattle.cta_model.specs.declared.entries.Entry.{Entry}
 use Rattle.cta_model.specs.declared.asks.Ask.{Ask}
 use Rattle.cta_model.specs.declared.asks.Ask.TheVariants as ask
@@ -17,13 +16,13 @@ use Rattle.cta_model.specs.declared.asks.Job.{Job}
 use Rattle.cta_model.specs.declared.asks.Wanted.{Wanted}
 use Rattle.cta_model.specs.declared.states.Charge.{Charge}
 use Rattle.cta_model.specs.declared.states.StageFile.{StageFile}
-use Rattle.cta_model.specs.History.{History, next_number, entry_of, is_number, has_text}
+use Rattle.cta_model.specs.History.{History, next_number, entry_of, is_number, has_text, is_empty}
 use Rattle.cta_model.specs.Files.{live_file}
 use Rattle.cta_model.specs.Mounts.{has_job, item_jobs}
 use Rattle.cta_model.specs.Places.{places_of}
 use Rattle.cta_model.specs.Buffer.{is_resident}
 use Rattle.cta_model.specs.Charges.{charges_of}
-use Rattle.cta_model.specs.Recalls.{Recall, live_recall, recall_job, is_empty}
+use Rattle.cta_model.specs.Recalls.{Recall, live_recall, recall_job}
 
 -- ---- requests
 
@@ -62,16 +61,6 @@ request_of h id = if is_dropped h id then None else request_by (entry_of h id)
 
 -- ---- texts of errors
 
--- the name of a drive, empty where there is no drive
-abbrev pub drive_name : Option Drive → List ℕ
-drive_name None = []
-drive_name (Some d) = d.name
-
--- the VID of a tape, empty where there is no tape
-abbrev pub tape_name : Option Tape → List ℕ
-tape_name None = []
-tape_name (Some t) = t.vid
-
 -- what is said of a fault that a job was charged for; loads and unloads charge none
 abbrev pub fault_text : Fault → List ℕ
 fault_text fault.Write = codes "write fault"
@@ -83,7 +72,7 @@ fault_text fault.Unload = []
 
 -- a charge as `FAULT on DRIVE VID`
 abbrev pub charge_text : Site → Charge → List ℕ
-charge_text site c = fault_text c.fault ++ (codes " on " ++ (drive_name (slice_get site.drives.items c.drive) ++ (codes " " ++ tape_name (slice_get site.tapes.items c.tape))))
+charge_text site c = fault_text c.fault ++ (codes " on " ++ (drive_name site c.drive ++ (codes " " ++ vid_of site c.tape)))
 
 -- texts joined by `; `
 abbrev pub joined_texts : List (List ℕ) → List ℕ

@@ -14,9 +14,14 @@ pub use asks::{Ask, Direction, Fate, Fault, Item, Job, Look, Wanted, Who};
 pub use blob::Sum256;
 pub use cta_site::{NoMemory, Rows, TapeState, Text};
 pub use entries::{Actor, Entry};
-pub use examples::{both_copies_are_needed, flushed_is_on_tape, put_is_on_disk};
+pub use examples::{
+    both_copies_are_needed, claimed_job_is_not_queued, directions_have_their_own_quotas,
+    flushed_is_on_tape, late_read_is_dropped, old_place_counts_until_the_new,
+    priority_goes_before_age, put_is_on_disk, queued_copy_keeps_its_file,
+    returned_jobs_keep_their_place,
+};
 pub use reports::{
     FailedCopy, FileState, ItemState, Locality, PlaceInfo, QueueInfo, RepackInfo, RepackItem,
     StageFileInfo, StageInfo, TapeInfo,
 };
-pub use states::{Candidate, Charge, Mount, Place, StageFile};
+pub use states::{Candidate, Charge, Mount, Place, Recall, StageFile};

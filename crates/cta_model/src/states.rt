@@ -1,7 +1,10 @@
 // What the definitions speak of beside asks and answers.
+ghost use Rattle.std.specs.Prelude.{◌≡◌};
+
 use crate::asks::{Direction, Fault};
 use crate::reports::FileState;
 use cta_site::Text;
+use std::marker::Model;
 
 /// A mount: the drive and the tape by their numbers in the site, and which way it goes.
 #[derive(Clone, Copy, Debug, PartialEq, Eq)]
@@ -49,4 +52,43 @@ pub struct StageFile {
     pub finished: Option<u64>,
     pub error: Option<Text>,
     pub released: bool,
+}
+
+/// A live recall of a file: the number of the entry that it was born by, and the numbers of the Stage and Repack entries
+/// that still wait for it, in their order.
+#[derive(Drop)]
+pub struct Recall {
+    birth: u32,
+    waiting: Vec<u32>,
+}
+
+impl Model for Recall {
+    ghost use Rattle.cta_model.specs.Recalls.{Recall as LiveRecall};
+
+    ghost Value = { LiveRecall };
+
+    ghost view = { λ r. record { birth = r.birth; waiting = r.waiting.items } };
+}
+
+impl Recall {
+    /// The recall of this birth for which these entries wait. It takes no memory and constant time.
+    pub fn of(birth: u32, waiting: Vec<u32>) -> Recall
+        ensures { result ≡ record { birth = birth; waiting = waiting.items } }
+    {
+        Recall { birth, waiting }
+    }
+
+    /// The number of the entry that it was born by.
+    pub fn birth(&self) -> u32
+        ensures { result ≡ self.now.birth }
+    {
+        self.birth
+    }
+
+    /// The numbers of the entries that wait for it.
+    pub fn waiting(&self) -> &[u32]
+        ensures { result.now ≡ self.now.waiting }
+    {
+        self.waiting.as_slice()
+    }
 }

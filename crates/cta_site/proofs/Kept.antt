@@ -5,7 +5,7 @@ use Rattle.std.specs.Option.{option_or}
 use Rattle.cta_site.specs.declared.site.Site.{Site}
 use Rattle.cta_site.specs.Items.{unless, fault}
 use Rattle.cta_site.specs.Forms.{size_fault, are_texts, are_limits, fits_buffer, are_counts, are_store_counts, are_caller_counts, are_device_counts}
-use Rattle.cta_site.specs.ValidSite.{AreCounts}
+use Rattle.cta_site.specs.WellFormed.{AreCounts}
 
 pub neither : {X : Type 0} (a b : Option X) → option_or a b ≡ None → (a ≡ None) × (b ≡ None)
 neither None b e = (refl, e)

@@ -9,7 +9,7 @@ use Rattle.cta_site.specs.declared.site.Site.{Site}
 use Rattle.cta_site.specs.declared.site.Drive.{Drive}
 use Rattle.cta_site.specs.declared.site.Tape.{Tape}
 use Rattle.cta_site.specs.Names.{IsName, is_name_byte}
-use Rattle.cta_site.specs.ValidSite.{IsValidSite}
+use Rattle.cta_site.specs.WellFormed.{IsWellFormed}
 use Rattle.cta_site.specs.Lookups.{place_by}
 use Rattle.cta_site.specs.Laws.{DrivesAreNamed, DrivesAreFound, TapesAreNamed, TapesAreFound}
 use Rattle.cta_site.specs.Bytes.{Without}
@@ -37,7 +37,7 @@ found_name name xs key i x e f =
     let hit : bytes_eq (name (get_or xs i x)) key ≡ true = (position-Some (λ y. bytes_eq (name y) key) xs i x e).1 in
     (bytes_eq-Decides (name x) key).0 (rw here at hit)
 
-pub drives_are_named : (site : Site) → IsValidSite site → DrivesAreNamed site
+pub drives_are_named : (site : Site) → IsWellFormed site → DrivesAreNamed site
 drives_are_named site valid = λ drive low.
     let d = item_at site.drives.items drive low in
     (rw d.1 (named_at (λ (x : Drive). x.name) site.drives.items drive d.0 valid.names.drives d.1), rw d.1 (place_of_name (λ (x : Drive). x.name) site.drives.items drive d.0 valid.numbered.drives d.1))
@@ -48,7 +48,7 @@ drives_are_found site = λ name drive e.
     let d = item_at site.drives.items drive low in
     (low, rw d.1 (found_name (λ (x : Drive). x.name) site.drives.items name drive d.0 e d.1))
 
-pub tapes_are_named : (site : Site) → IsValidSite site → TapesAreNamed site
+pub tapes_are_named : (site : Site) → IsWellFormed site → TapesAreNamed site
 tapes_are_named site valid = λ tape low.
     let d = item_at site.tapes.items tape low in
     (rw d.1 (named_at (λ (x : Tape). x.vid) site.tapes.items tape d.0 valid.names.tapes d.1), rw d.1 (place_of_name (λ (x : Tape). x.vid) site.tapes.items tape d.0 valid.numbered.tapes d.1))

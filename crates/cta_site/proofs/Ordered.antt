@@ -36,7 +36,7 @@ not_pushed n m b e =
       | inr miss ↦ let rest : b ≡ false = rw miss at e in (nat_list_eq_equiv.symm n m ∙ miss, rest)
     ]
 
-pub no_repeat : (seen ns : List (List ℕ)) → repeat_after seen ns ≡ None → AllByRecursion (λ m. is_among seen m ≡ false) ns × IsDistinct bytes_eq ns
+pub no_repeat : (seen ns : List (List ℕ)) → repeat_after bytes_eq seen ns ≡ None → AllByRecursion (λ m. is_among seen m ≡ false) ns × IsDistinct bytes_eq ns
 unfolding IsDistinct
 no_repeat seen [] e = (tt, tt)
 no_repeat seen (n ∷ ns) e =

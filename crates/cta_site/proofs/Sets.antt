@@ -32,13 +32,13 @@ holds-more old new key ns updates was name =
     let same : is_eq (slice_cmp nat_cmp key.now name) ≡ bytes_eq name key.now = is_eq-slice_cmp key.now name ∙ nat_list_eq_equiv.symm key.now name in
     updates.0 q ∙ ap (λ b. cond b true (holds old name)) same ∙ ap (λ b. cond (bytes_eq name key.now) true b) (was name) ∙ sym (is_among-push ns key.now name)
 
-pub repeat_found : (ns : List (List ℕ)) (i : ℕ) → i < length ns → is_among (take i ns) (get_or ns i []) ≡ true → repeat_after (take i ns) (drop i ns) ≡ Some i
+pub repeat_found : (ns : List (List ℕ)) (i : ℕ) → i < length ns → is_among (take i ns) (get_or ns i []) ≡ true → repeat_after bytes_eq (take i ns) (drop i ns) ≡ Some i
 repeat_found ns i low hit =
     let fits : i ≤ length ns = omega arith in
     let len : length (take i ns) ≡ i = length-take-le i ns fits in
     rw (drop-cons ns i [], hit) (ap Some len)
 
-pub repeat_more : (ns : List (List ℕ)) (i : ℕ) → i < length ns → is_among (take i ns) (get_or ns i []) ≡ false → repeat_after (take i ns) (drop i ns) ≡ repeat_after (take (i + 1) ns) (drop (i + 1) ns)
+pub repeat_more : (ns : List (List ℕ)) (i : ℕ) → i < length ns → is_among (take i ns) (get_or ns i []) ≡ false → repeat_after bytes_eq (take i ns) (drop i ns) ≡ repeat_after bytes_eq (take (i + 1) ns) (drop (i + 1) ns)
 repeat_more ns i low miss =
     let more : take (i + 1) ns ≡ take i ns ++ get_or ns i [] ∷ [] = take_more ns i [] low in
     let rest : drop i ns ≡ get_or ns i [] ∷ drop (i + 1) ns = rw add-one (drop-cons ns i [] low) in
@@ -70,18 +70,18 @@ set_more names i old new low updates was name =
     rw more (holds-more old new (item names i) (take i (bytes names)) updates was name)
 
 pub found_again : (names : List (Bor (List ℕ))) (i : ℕ) (seen : BTreeSet (Bor (List ℕ))) → i < length names → holds seen (item names i).now ≡ true
-    → ((name : List ℕ) → holds seen name ≡ is_among (take i (bytes names)) name) → repeat_after (take i (bytes names)) (drop i (bytes names)) ≡ Some i
+    → ((name : List ℕ) → holds seen name ≡ is_among (take i (bytes names)) name) → repeat_after bytes_eq (take i (bytes names)) (drop i (bytes names)) ≡ Some i
 found_again names i seen low hit was =
     let fits : i < length (bytes names) = simp length-map low in
     let here : is_among (take i (bytes names)) (get_or (bytes names) i []) ≡ true = ap (is_among (take i (bytes names))) (bytes_at names i) ∙ sym (was (item names i).now) ∙ hit in
     repeat_found (bytes names) i fits here
 
 pub not_yet_again : (names : List (Bor (List ℕ))) (i : ℕ) (seen : BTreeSet (Bor (List ℕ))) → i < length names → holds seen (item names i).now ≡ false
-    → ((name : List ℕ) → holds seen name ≡ is_among (take i (bytes names)) name) → repeat_after (take i (bytes names)) (drop i (bytes names)) ≡ repeat_after (take (i + 1) (bytes names)) (drop (i + 1) (bytes names))
+    → ((name : List ℕ) → holds seen name ≡ is_among (take i (bytes names)) name) → repeat_after bytes_eq (take i (bytes names)) (drop i (bytes names)) ≡ repeat_after bytes_eq (take (i + 1) (bytes names)) (drop (i + 1) (bytes names))
 not_yet_again names i seen low miss was =
     let fits : i < length (bytes names) = simp length-map low in
     let here : is_among (take i (bytes names)) (get_or (bytes names) i []) ≡ false = ap (is_among (take i (bytes names))) (bytes_at names i) ∙ sym (was (item names i).now) ∙ miss in
     repeat_more (bytes names) i fits here
 
-pub none_again : (names : List (List ℕ)) → repeat_after (take (length names) names) (drop (length names) names) ≡ None
+pub none_again : (names : List (List ℕ)) → repeat_after bytes_eq (take (length names) names) (drop (length names) names) ≡ None
 none_again names = rw (drop-length names) refl

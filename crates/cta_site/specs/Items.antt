@@ -15,14 +15,18 @@ unless false = Some 0
 abbrev pub first_failing : {A : Type 0} → (A → Bool) → List A → Option ℕ
 first_failing test xs = position (λ x. not (test x)) xs
 
--- the place of the first of these names that one before it equals, after some that were seen
-abbrev pub repeat_after : List (List ℕ) → List (List ℕ) → Option ℕ
-repeat_after seen [] = None
-repeat_after seen (n ∷ ns) = if list_any (bytes_eq n) seen then Some (length seen) else repeat_after (seen ++ n ∷ []) ns
+-- the place of the first of these that is the same as one before it, after some that were seen
+abbrev pub repeat_after : {A : Type 0} → (A → A → Bool) → List A → List A → Option ℕ
+repeat_after same seen [] = None
+repeat_after same seen (x ∷ xs) = if list_any (same x) seen then Some (length seen) else repeat_after same (seen ++ x ∷ []) xs
 
--- the place of the first name that one before it equals: the later of the first two that are equal
+-- the place of the first that is the same as one before it: the later of the first two that are the same
+abbrev pub first_same : {A : Type 0} → (A → A → Bool) → List A → Option ℕ
+first_same same xs = repeat_after same [] xs
+
+-- the place of the first name that one before it equals
 abbrev pub first_repeat : List (List ℕ) → Option ℕ
-first_repeat names = repeat_after [] names
+first_repeat names = first_same bytes_eq names
 
 -- a name is one of these
 abbrev pub is_among : List (List ℕ) → List ℕ → Bool

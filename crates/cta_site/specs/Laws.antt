@@ -2,7 +2,7 @@
 use Rattle.std.specs.Prelude.{◌≡◌, ℕ, ◌<◌, ◌≤◌, List, length, Some}
 use Rattle.cta_site.specs.declared.site.Site.{Site}
 use Rattle.cta_site.specs.Names.{IsName}
-use Rattle.cta_site.specs.Lookups.{class_of, copies_of, policy_of, drive_of, drive_name, tape_of, vid_of}
+use Rattle.cta_site.specs.Lookups.{class_of, copies_of, copies_of_class, policy_of, pool_of, HasRoute, drive_of, drive_name, tape_of, vid_of}
 
 -- each drive's name has the form of a name and is the name of no other drive
 abbrev pub DrivesAreNamed : Site → Type 0
@@ -27,3 +27,7 @@ ClassesAreKnown site = (path : List ℕ) (class : ℕ) → class_of site path �
 -- a caller's policy is one of the site's
 abbrev pub PoliciesAreKnown : Site → Type 0
 PoliciesAreKnown site = (requester group : List ℕ) → policy_of site requester group < length site.policies.items
+
+-- each copy of a class has a route, which goes to a pool of the site
+abbrev pub CopiesAreRouted : Site → Type 0
+CopiesAreRouted site = (class copy : ℕ) → class < length site.classes.items → 1 ≤ copy → copy ≤ copies_of_class site (Some class) → HasRoute site class copy × (pool_of site class copy < length site.pools.items)

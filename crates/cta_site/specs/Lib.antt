@@ -1,10 +1,9 @@
 pub mod Listed
 pub mod Bare
 pub mod Names
-pub mod ValidSite
+pub mod WellFormed
 pub mod Lookups
-pub mod Scans
-pub mod FirstSite
+pub mod Sites
 pub mod Bytes
 pub mod Laws
 pub mod Items
@@ -13,3 +12,7 @@ pub mod Paths
 pub mod References
 pub mod Faults
 pub mod Numbering
+pub mod ValidSite
+pub mod Keys
+pub mod NameMap
+pub mod Index

@@ -10,6 +10,7 @@ use Rattle.cta_site.specs.declared.site.TapePool.{TapePool}
 use Rattle.cta_site.specs.declared.site.Policy.{Policy}
 use Rattle.cta_site.specs.declared.site.Tape.{Tape}
 use Rattle.cta_site.specs.declared.site.Drive.{Drive}
+use Rattle.cta_site.specs.Bare.{bare_site}
 
 -- a list is in byte order of its items' names
 abbrev pub IsByName : {A : Type 0} → (A → List ℕ) → List A → Type 0
@@ -44,3 +45,9 @@ pub record Rearranges (file site : Site) : Type 0 where
   pub drives : IsPermutation file.drives.items site.drives.items
   pub directories : site.directories.items ≡ file.directories.items
   pub failures : site.failures.items ≡ file.failures.items
+
+-- a site says what its file says, its numbered lists are in order, and it has no room to spare in its lists
+pub record IsNumberedFrom (file site : Site) : Type 0 where
+  pub same : Rearranges file site
+  pub in_order : IsInOrder site
+  pub bare : site ≡ bare_site site

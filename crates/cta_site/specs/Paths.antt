@@ -2,6 +2,7 @@
 use Rattle.std.specs.Prelude.{ℕ, length, List, [], ◌∷◌, Bool, false, if◌then◌else◌, ◌==◌, ◌&&◌, not, nat_le, bytes_eq, codes}
 use Rattle.std.specs.List.{list_all}
 
+-- the parts of a text where a byte that is not a slash is put before it
 abbrev pub onto_first : ℕ → List (List ℕ) → List (List ℕ)
 onto_first b [] = (b ∷ []) ∷ []
 onto_first b (part ∷ parts) = (b ∷ part) ∷ parts

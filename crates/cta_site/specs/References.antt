@@ -1,25 +1,20 @@
 -- The rules on names that differ and on what elements say of one another.
-use Rattle.std.specs.Prelude.{ℕ, length, List, [], ◌∷◌, ◌++◌, Option, Some, None, Bool, ◌==◌, ◌&&◌, ◌||◌, nat_le, not, bytes_eq, find, filter, map}
+use Rattle.std.specs.Prelude.{ℕ, length, List, [], ◌∷◌, Option, Some, None, Bool, ◌==◌, ◌&&◌, ◌||◌, nat_le, not, bytes_eq, find, filter}
+use Rattle.std.specs.List.{list_all}
 use Rattle.std.specs.Option.{option_or}
 use Rattle.cta_site.specs.declared.site.Site.{Site}
 use Rattle.cta_site.specs.declared.site.Class.{Class}
 use Rattle.cta_site.specs.declared.site.TapePool.{TapePool}
 use Rattle.cta_site.specs.declared.site.Route.{Route}
 use Rattle.cta_site.specs.declared.site.Rule.{Rule}
-use Rattle.cta_site.specs.declared.site.RuleKind.{RuleKind}
-use Rattle.cta_site.specs.declared.site.RuleKind.TheVariants.{Requester, Group}
 use Rattle.cta_site.specs.declared.site.Tape.{Tape}
 use Rattle.cta_site.specs.declared.site.Drive.{Drive}
 use Rattle.cta_site.specs.declared.site.Directory.{Directory}
 use Rattle.cta_site.specs.declared.site.Failure.{Failure}
-use Rattle.cta_site.specs.Lookups.{is_route_of, copies_in, vo_name}
+use Rattle.cta_site.specs.Lookups.{is_route_of, same_kind, copies_in, vo_name}
 use Rattle.cta_site.specs.Paths.{is_path}
-use Rattle.cta_site.specs.ValidSite.{vo_names, class_names, pool_names, policy_names, vids, drive_names}
-use Rattle.cta_site.specs.Items.{unless, first_failing, first_repeat, is_among, fault}
-
--- the paths of the directories
-abbrev pub directory_paths : Site → List (List ℕ)
-directory_paths site = map (λ (d : Directory). d.path) site.directories.items
+use Rattle.cta_site.specs.Names.{vo_names, class_names, pool_names, policy_names, vids, drive_names, directory_paths}
+use Rattle.cta_site.specs.Items.{unless, first_failing, first_same, first_repeat, is_among, fault}
 
 -- the first broken one of rules 9 to 12: no two names of virtual organisations, classes, pools or policies are equal
 abbrev pub store_repeat : Site → Option (ℕ × ℕ)
@@ -49,11 +44,13 @@ pool_has_vo site p = is_among (vo_names site) p.vo
 abbrev pub has_one_route : Site → Class → ℕ → Bool
 has_one_route site c copy = length (filter (is_route_of c.name copy) site.routes.items) == 1
 
--- rule 19: each copy from 1 to a class's copies, of which there are at most 4, has exactly one route
+-- the numbers that a copy may have
+abbrev pub copy_numbers : List ℕ
+copy_numbers = 1 ∷ 2 ∷ 3 ∷ 4 ∷ []
+
+-- rule 19: each copy from 1 to a class's copies has exactly one route
 abbrev pub class_has_routes : Site → Class → Bool
-class_has_routes site c =
-    (not (nat_le 1 c.copies) || has_one_route site c 1) && ((not (nat_le 2 c.copies) || has_one_route site c 2)
-    && ((not (nat_le 3 c.copies) || has_one_route site c 3) && (not (nat_le 4 c.copies) || has_one_route site c 4)))
+class_has_routes site c = list_all (λ copy. not (nat_le copy c.copies) || has_one_route site c copy) copy_numbers
 
 -- the class of this name
 abbrev pub class_named : Site → List ℕ → Option Class
@@ -80,27 +77,17 @@ class_vo (Some c) = c.vo
 abbrev pub route_keeps_vo : Site → Route → Bool
 route_keeps_vo site r = bytes_eq (class_vo (class_named site r.class)) (vo_name (pool_named site r.pool))
 
--- a text with each byte behind a 1, and a 0 behind all: no such text is the front of another
-abbrev pub closed_text : List ℕ → List ℕ
-closed_text [] = 0 ∷ []
-closed_text (b ∷ bs) = 1 ∷ b ∷ closed_text bs
-
--- what tells routes apart that go from different classes or to different pools
-abbrev pub route_ends : Route → List ℕ
-route_ends r = closed_text r.class ++ r.pool
+-- rule 23: two routes are the same where they go from one class to one pool
+abbrev pub same_ends : Route → Route → Bool
+same_ends r s = bytes_eq r.class s.class && bytes_eq r.pool s.pool
 
 -- rule 26: a rule's policy exists
 abbrev pub rule_has_policy : Site → Rule → Bool
 rule_has_policy site r = is_among (policy_names site) r.policy
 
--- a kind of rule as a byte
-abbrev pub kind_byte : RuleKind → ℕ
-kind_byte Requester = 0
-kind_byte Group = 1
-
--- what tells rules apart that are of different kinds or names
-abbrev pub rule_caller : Rule → List ℕ
-rule_caller r = kind_byte r.kind ∷ r.name
+-- rule 27: two rules are the same where they are of one kind and one name
+abbrev pub same_caller : Rule → Rule → Bool
+same_caller r s = same_kind r.kind s.kind && bytes_eq r.name s.name
 
 -- rule 28: a tape's pool and library exist
 abbrev pub tape_has_home : Site → Tape → Bool
@@ -131,7 +118,7 @@ route_fault site =
     option_or (fault 20 (first_failing (route_has_class site) site.routes.items))
     (option_or (fault 21 (first_failing (route_has_pool site) site.routes.items))
     (option_or (fault 22 (first_failing (route_keeps_vo site) site.routes.items))
-    (fault 23 (first_repeat (map route_ends site.routes.items)))))
+    (fault 23 (first_same same_ends site.routes.items))))
 
 -- the first broken one of rules 24 to 27, on policies and rules; rules 24 and 25: the default policy and the repack policy exist; rule 27: no two rules have the same kind and name
 abbrev pub policy_fault : Site → Option (ℕ × ℕ)
@@ -139,7 +126,7 @@ policy_fault site =
     option_or (fault 24 (unless (is_among (policy_names site) site.default_policy)))
     (option_or (fault 25 (unless (is_among (policy_names site) site.repack_policy)))
     (option_or (fault 26 (first_failing (rule_has_policy site) site.rules.items))
-    (fault 27 (first_repeat (map rule_caller site.rules.items)))))
+    (fault 27 (first_same same_caller site.rules.items))))
 
 -- rule 29 goes over the drives and then over the failures
 abbrev pub drive_item : Site → Option ℕ

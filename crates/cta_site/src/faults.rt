@@ -2,9 +2,11 @@
 ghost use Rattle.std.specs.Prelude.{◌≡◌, ◌<◌, ◌≤◌, ◌^◌, IfOk, IfSome, map};
 ghost use Rattle.cta_site.specs.Faults.{element_fault, first_fault};
 ghost use Rattle.cta_site.specs.References as said;
-ghost use Rattle.cta_site.specs.ValidSite.{AreCounts, class_names, drive_names, policy_names, pool_names, vo_names};
+ghost use Rattle.cta_site.specs.Names.{class_names, drive_names, policy_names, pool_names, vo_names};
+ghost use Rattle.cta_site.specs.WellFormed.{AreCounts};
 
 use crate::forms::{counts_kept, fault, form_fault, item, size_fault, unless};
+use crate::index::places_of;
 use crate::keys::{library_repeat, repeat_of, route_repeat, rule_repeat};
 use crate::named::{Named, library_names, names_of};
 use crate::names::Names;
@@ -57,7 +59,7 @@ fn class_fault(alloc: Global, site: &Site) -> Result<Option<(u8, u32)>, NoMemory
     let vos = known(alloc, site.vos.as_slice())?;
     let classes = fault(17, item(class_without_vo(site.classes.as_slice(), &vos)));
     let pools = fault(18, item(pool_without_vo(site.pools.as_slice(), &vos)));
-    let routes = fault(19, item(class_without_routes(site)));
+    let routes = fault(19, item(class_without_routes(alloc, site)?));
     Ok(classes.or(pools.or(routes)))
 }
 
@@ -66,12 +68,13 @@ fn route_fault(alloc: Global, site: &Site) -> Result<Option<(u8, u32)>, NoMemory
     requires { AreCounts site.now }
     ensures { IfOk result (λ f. f ≡ said.route_fault site.now) }
 {
-    let classes = known(alloc, site.classes.as_slice())?;
-    let pools = known(alloc, site.pools.as_slice())?;
+    let classes = places_of(alloc, site.classes.as_slice())?;
+    let pools = places_of(alloc, site.pools.as_slice())?;
+    let names = known(alloc, site.pools.as_slice())?;
     let ends = route_repeat(alloc, 23, site.routes.as_slice())?;
     let class = fault(20, item(route_without_class(site, &classes)));
-    let pool = fault(21, item(route_without_pool(site.routes.as_slice(), &pools)));
-    let vo = fault(22, item(route_across_vos(site)));
+    let pool = fault(21, item(route_without_pool(site.routes.as_slice(), &names)));
+    let vo = fault(22, item(route_across_vos(site, &classes, &pools)));
     Ok(class.or(pool.or(vo.or(ends))))
 }
 
@@ -139,7 +142,8 @@ fn element_fault(alloc: Global, site: &Site) -> Result<Option<(u8, u32)>, NoMemo
     Ok(forms.or(stores.or(devices.or(classes.or(routes.or(policies.or(tapes)))))))
 }
 
-// The first of rules 3 to 30 that a site breaks, and the item that breaks it. Its cost is the size of the site's texts and lists and the number of names times its logarithm.
+// The first of rules 3 to 30 that a site breaks, and the item that breaks it. Its cost is the size of the site's texts
+// and lists, and the number of names times its logarithm.
 pub(crate) fn first_fault(alloc: Global, site: &Site) -> Result<Option<(u8, u32)>, NoMemory>
     ensures { IfOk result (λ f. f ≡ first_fault site.now) }
 {

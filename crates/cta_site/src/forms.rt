@@ -4,7 +4,7 @@ ghost use Rattle.std.specs.List.{list_all};
 ghost use Rattle.cta_site.specs.Forms as rule;
 ghost use Rattle.cta_site.specs.Items.{fault, first_failing, is_within, unless};
 ghost use Rattle.cta_site.specs.Names.{is_name_byte};
-ghost use Rattle.cta_site.specs.ValidSite.{AreCounts};
+ghost use Rattle.cta_site.specs.WellFormed.{AreCounts};
 ghost use Rattle.cta_site.specs.declared.site.Vo.{Vo};
 ghost use Rattle.cta_site.specs.declared.site.Class.{Class};
 ghost use Rattle.cta_site.specs.declared.site.TapePool.{TapePool};
@@ -12,6 +12,7 @@ ghost use Rattle.cta_site.specs.declared.site.Policy.{Policy};
 ghost use Rattle.cta_site.specs.declared.site.Tape.{Tape};
 ghost use Rattle.cta_site.specs.declared.site.Drive.{Drive};
 
+use crate::named::Named;
 use crate::site::{
     CallKind, Class, Drive, Failure, Limits, Policy, Route, Rule, Site, Tape, TapePool, Vo,
 };
@@ -302,67 +303,13 @@ fn out_of_range(site: &Site) -> Option<u32>
     vos.or(classes.or(routes.or(policies.or(rules.or(tapes.or(failures))))))
 }
 
-// The place of the first virtual organisation whose name is not of the form.
-fn vos_misnamed(vos: &[Vo]) -> Option<usize>
-    requires { length vos.now ≤ 4096 }
-    ensures value { result ≡ first_failing (λ (v : Vo). rule.is_name v.name) vos.now }
+// The place of the first element whose name, or VID, is not of the form.
+fn misnamed_of<T: Named>(items: &[T]) -> Option<usize>
+    requires { length items.now ≤ 4096 }
+    ensures value { result ≡ first_failing (λ x. rule.is_name (T.name_of x)) items.now }
     ensures within { IfSome result (λ i. i < 2 ^ 32) }
 {
-    vos.iter().position(|v| !is_name(v.name.as_bytes()))
-}
-
-// The place of the first class whose name is not of the form.
-fn classes_misnamed(classes: &[Class]) -> Option<usize>
-    requires { length classes.now ≤ 4096 }
-    ensures value { result ≡ first_failing (λ (c : Class). rule.is_name c.name) classes.now }
-    ensures within { IfSome result (λ i. i < 2 ^ 32) }
-{
-    classes.iter().position(|c| !is_name(c.name.as_bytes()))
-}
-
-// The place of the first pool whose name is not of the form.
-fn pools_misnamed(pools: &[TapePool]) -> Option<usize>
-    requires { length pools.now ≤ 4096 }
-    ensures value { result ≡ first_failing (λ (p : TapePool). rule.is_name p.name) pools.now }
-    ensures within { IfSome result (λ i. i < 2 ^ 32) }
-{
-    pools.iter().position(|p| !is_name(p.name.as_bytes()))
-}
-
-// The place of the first policy whose name is not of the form.
-fn policies_misnamed(policies: &[Policy]) -> Option<usize>
-    requires { length policies.now ≤ 4096 }
-    ensures value { result ≡ first_failing (λ (p : Policy). rule.is_name p.name) policies.now }
-    ensures within { IfSome result (λ i. i < 2 ^ 32) }
-{
-    policies.iter().position(|p| !is_name(p.name.as_bytes()))
-}
-
-// The place of the first library whose name is not of the form.
-fn libraries_misnamed(libraries: &[Text]) -> Option<usize>
-    requires { length libraries.now ≤ 4096 }
-    ensures value { result ≡ first_failing rule.is_name libraries.now }
-    ensures within { IfSome result (λ i. i < 2 ^ 32) }
-{
-    libraries.iter().position(|l| !is_name(l.as_bytes()))
-}
-
-// The place of the first tape whose VID is not of the form.
-fn tapes_misnamed(tapes: &[Tape]) -> Option<usize>
-    requires { length tapes.now ≤ 4096 }
-    ensures value { result ≡ first_failing (λ (t : Tape). rule.is_name t.vid) tapes.now }
-    ensures within { IfSome result (λ i. i < 2 ^ 32) }
-{
-    tapes.iter().position(|t| !is_name(t.vid.as_bytes()))
-}
-
-// The place of the first drive whose name is not of the form.
-fn drives_misnamed(drives: &[Drive]) -> Option<usize>
-    requires { length drives.now ≤ 4096 }
-    ensures value { result ≡ first_failing (λ (d : Drive). rule.is_name d.name) drives.now }
-    ensures within { IfSome result (λ i. i < 2 ^ 32) }
-{
-    drives.iter().position(|d| !is_name(d.name.as_bytes()))
+    items.iter().position(|x| !is_name(x.name()))
 }
 
 // The place of the first element whose name or VID is not of the form, list by list.
@@ -370,13 +317,13 @@ fn misnamed(site: &Site) -> Option<u32>
     requires { AreCounts site.now }
     ensures { result ≡ rule.misnamed site.now }
 {
-    let vos = item(vos_misnamed(site.vos.as_slice()));
-    let classes = item(classes_misnamed(site.classes.as_slice()));
-    let pools = item(pools_misnamed(site.pools.as_slice()));
-    let policies = item(policies_misnamed(site.policies.as_slice()));
-    let libraries = item(libraries_misnamed(site.libraries.as_slice()));
-    let tapes = item(tapes_misnamed(site.tapes.as_slice()));
-    let drives = item(drives_misnamed(site.drives.as_slice()));
+    let vos = item(misnamed_of(site.vos.as_slice()));
+    let classes = item(misnamed_of(site.classes.as_slice()));
+    let pools = item(misnamed_of(site.pools.as_slice()));
+    let policies = item(misnamed_of(site.policies.as_slice()));
+    let libraries = item(misnamed_of(site.libraries.as_slice()));
+    let tapes = item(misnamed_of(site.tapes.as_slice()));
+    let drives = item(misnamed_of(site.drives.as_slice()));
     vos.or(classes.or(pools.or(policies.or(libraries.or(tapes.or(drives))))))
 }
 

@@ -1,7 +1,8 @@
 // Byte strings that tell routes and rules apart.
 ghost use Rattle.std.specs.Prelude.{◌≡◌, ◌<◌, ◌≤◌, ◌++◌, ◌∷◌, [], IfOk, length, map};
-ghost use Rattle.cta_site.specs.Items.{fault, first_repeat};
-ghost use Rattle.cta_site.specs.References as said;
+ghost use Rattle.cta_site.specs.Items.{fault, first_repeat, first_same};
+ghost use Rattle.cta_site.specs.Keys as said;
+ghost use Rattle.cta_site.specs.References.{same_ends, same_caller};
 
 use crate::forms::{fault, item};
 use crate::named::{Named, library_names, names_of};
@@ -145,7 +146,7 @@ pub(crate) fn route_repeat(
     routes: &[Route],
 ) -> Result<Option<(u8, u32)>, NoMemory>
     requires { length routes.now ≤ 4096 }
-    ensures { IfOk result (λ f. f ≡ fault rule (first_repeat (map said.route_ends routes.now))) }
+    ensures { IfOk result (λ f. f ≡ fault rule (first_same same_ends routes.now)) }
 {
     let keys = all_route_ends(alloc, routes)?;
     repeat_of(alloc, rule, keys.as_slice())
@@ -158,7 +159,7 @@ pub(crate) fn rule_repeat(
     rules: &[Rule],
 ) -> Result<Option<(u8, u32)>, NoMemory>
     requires { length rules.now ≤ 4096 }
-    ensures { IfOk result (λ f. f ≡ fault rule (first_repeat (map said.rule_caller rules.now))) }
+    ensures { IfOk result (λ f. f ≡ fault rule (first_same same_caller rules.now)) }
 {
     let keys = all_rule_callers(alloc, rules)?;
     repeat_of(alloc, rule, keys.as_slice())

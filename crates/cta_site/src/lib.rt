@@ -8,37 +8,37 @@
 //! `Text`, which contracts see as its bytes, and `Rows`, which they see as its items and the room that is left.
 #![tactic(auto)]
 
-mod bytes;
 mod check;
 mod faults;
-mod first_site;
-mod first_value;
 mod forms;
+mod index;
 mod keys;
 mod lookups;
+mod name_map;
 mod named;
 mod names;
 mod no_memory;
-mod numbers;
 mod order;
 mod paths;
 mod routes;
 mod rows;
 mod site;
+mod tally;
 mod text;
 mod twin;
+mod valid_laws;
 mod valid_site;
 
 pub use check::SiteError;
-pub use first_site::read_first_site;
 pub use no_memory::NoMemory;
+pub use paths::is_path;
 pub use rows::Rows;
 pub use site::{
     CallKind, Class, Directory, Drive, Failure, Limits, Policy, Route, Rule, RuleKind, Site, Tape,
     TapePool, TapeState, Vo,
 };
 pub use text::Text;
+pub use valid_laws::{
+    example_sites_are_valid, numbers_are_known, one_numbering, valid_is_well_formed,
+};
 pub use valid_site::ValidSite;
-
-#[cfg(test)]
-mod tests;

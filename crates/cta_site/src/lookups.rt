@@ -1,87 +1,51 @@
-// Searches in the lists of a site, one after another.
-ghost use Rattle.std.specs.Prelude.{◌≡◌, ◌<◌, ◌≤◌, ◌^◌, length, filter, find, option_copied, slice_get, IfSome};
-ghost use Rattle.cta_site.specs.Lookups.{index_by, place_by, is_under, longest, copies_in, is_route_of, is_rule_for, rule_policy, policy_name_in};
-ghost use Rattle.cta_site.specs.Scans.{longer_so_far};
-ghost use Rattle.cta_site.specs.declared.site.Class.{Class};
-ghost use Rattle.cta_site.specs.declared.site.TapePool.{TapePool};
-ghost use Rattle.cta_site.specs.declared.site.Policy.{Policy};
-ghost use Rattle.cta_site.specs.declared.site.Tape.{Tape};
-ghost use Rattle.cta_site.specs.declared.site.Drive.{Drive};
+// Searches in the lists of a site, by the places of names.
+ghost use Rattle.std.specs.Prelude.{◌≡◌, ◌<◌, ◌≤◌, ◌^◌, List, length, bytes_eq, filter, find, option_copied, slice_get, IfSome};
+ghost use Rattle.std.specs.Option.{option_and_then, option_map};
+ghost use Rattle.std.specs.List.{position};
+ghost use Rattle.cta_site.specs.Index.{HasPlaces, HasAllRoutes, HasRules};
+ghost use Rattle.cta_site.specs.Lookups.{index_by, is_under, longest, copies_in, is_route_of, rule_policy, policy_name_in};
 ghost use Rattle.cta_site.specs.declared.site.Directory.{Directory};
+ghost use Rattle.cta_site.specs.declared.site.Route.{Route};
+ghost use Rattle.cta_site.specs.declared.site.Rule.{Rule};
+ghost use Rattle.cta_site.specs.declared.site.RuleKind.{RuleKind};
+ghost use Rattle.cta_site.specs.declared.site.RuleKind.TheVariants.{Requester, Group};
 
-use crate::bytes::strip;
-use crate::site::{Class, Directory, Drive, Policy, Route, Rule, RuleKind, Tape, TapePool};
+use crate::index::RouteIndex;
+use crate::name_map::NameMap;
+use crate::named::Named;
+use crate::site::{Class, Directory, Route, Rule};
 
-// The place of the first class of this name.
-fn class_place(classes: &[Class], name: &[u8]) -> Option<usize>
-    ensures value { result ≡ place_by (λ (c : Class). c.name) classes.now name.now }
-    ensures within { IfSome result (λ place. place < length classes.now) }
+// The item at a place, where there is one.
+fn item_at<T>(items: &[T], place: Option<u32>) -> Option<&T>
+    ensures { option_copied result ≡ option_and_then (slice_get items.now) place }
 {
-    classes.iter().position(|c| c.name.is(name))
-}
-
-// The place of the first pool of this name.
-fn pool_place(pools: &[TapePool], name: &[u8]) -> Option<usize>
-    ensures value { result ≡ place_by (λ (p : TapePool). p.name) pools.now name.now }
-    ensures within { IfSome result (λ place. place < length pools.now) }
-{
-    pools.iter().position(|p| p.name.is(name))
-}
-
-// The place of the first policy of this name.
-fn policy_place(policies: &[Policy], name: &[u8]) -> Option<usize>
-    ensures value { result ≡ place_by (λ (p : Policy). p.name) policies.now name.now }
-    ensures within { IfSome result (λ place. place < length policies.now) }
-{
-    policies.iter().position(|p| p.name.is(name))
-}
-
-// The place of the first drive of this name.
-pub(crate) fn drive_place(drives: &[Drive], name: &[u8]) -> Option<usize>
-    ensures value { result ≡ place_by (λ (d : Drive). d.name) drives.now name.now }
-    ensures within { IfSome result (λ place. place < length drives.now) }
-{
-    drives.iter().position(|d| d.name.is(name))
-}
-
-// The place of the first tape of this VID.
-pub(crate) fn tape_place(tapes: &[Tape], vid: &[u8]) -> Option<usize>
-    ensures value { result ≡ place_by (λ (t : Tape). t.vid) tapes.now vid.now }
-    ensures within { IfSome result (λ place. place < length tapes.now) }
-{
-    tapes.iter().position(|t| t.vid.is(vid))
-}
-
-// The place of the first class of this name, or their number where there is none.
-pub(crate) fn class_number(classes: &[Class], name: &[u8]) -> u32
-    requires { length classes.now < 2 ^ 32 }
-    ensures { result ≡ index_by (λ (c : Class). c.name) classes.now name.now }
-{
-    match class_place(classes, name) {
-        Some(place) => place as u32,
-        None => classes.len() as u32,
+    match place {
+        Some(place) => items.get(place as usize),
+        None => None,
     }
 }
 
-// The place of the first pool of this name, or their number where there is none.
-pub(crate) fn pool_number(pools: &[TapePool], name: &[u8]) -> u32
-    requires { length pools.now < 2 ^ 32 }
-    ensures { result ≡ index_by (λ (p : TapePool). p.name) pools.now name.now }
+// The first element of this name.
+pub(crate) fn element_of<'a, T: Named>(
+    places: &NameMap,
+    items: &'a [T],
+    name: &[u8],
+) -> Option<&'a T>
+    requires { HasPlaces places.now T.name_of items.now }
+    ensures { option_copied result ≡ find (λ x. bytes_eq (T.name_of x) name.now) items.now }
 {
-    match pool_place(pools, name) {
-        Some(place) => place as u32,
-        None => pools.len() as u32,
-    }
+    item_at(items, places.number(name))
 }
 
-// The place of the first policy of this name, or their number where there is none.
-pub(crate) fn policy_number(policies: &[Policy], name: &[u8]) -> u32
-    requires { length policies.now < 2 ^ 32 }
-    ensures { result ≡ index_by (λ (p : Policy). p.name) policies.now name.now }
+// The place of the first element of this name, or their number where there is none.
+pub(crate) fn number_of<T: Named>(places: &NameMap, items: &[T], name: &[u8]) -> u32
+    requires places { HasPlaces places.now T.name_of items.now }
+    requires small { length items.now < 2 ^ 32 }
+    ensures { result ≡ index_by T.name_of items.now name.now }
 {
-    match policy_place(policies, name) {
-        Some(place) => place as u32,
-        None => policies.len() as u32,
+    match places.number(name) {
+        Some(place) => place,
+        None => items.len() as u32,
     }
 }
 
@@ -95,87 +59,90 @@ pub(crate) fn copies_at(classes: &[Class], class: u32) -> u8
     }
 }
 
-// Whether a route is that of this class and copy.
-pub(crate) fn is_route_of(route: &Route, class: &[u8], copy: u8) -> bool
-    ensures { result ≡ is_route_of class.now copy route.now }
+// The place of the first route of this class and copy, by the places of the copy's routes.
+fn route_place(index: &RouteIndex, class: &[u8], copy: u8) -> Option<u32>
+    requires from { 1 ≤ copy }
+    requires to { copy ≤ 4 }
+    ensures { (routes : List Route) → HasAllRoutes index.now routes → result ≡ position (is_route_of class.now copy) routes }
 {
-    route.class.is(class) && route.copy == copy
+    match copy {
+        1 => index.first.number(class),
+        2 => index.second.number(class),
+        3 => index.third.number(class),
+        _ => index.fourth.number(class),
+    }
 }
 
 // The first route of this class and copy.
-pub(crate) fn route_of<'a>(routes: &'a [Route], class: &[u8], copy: u8) -> Option<&'a Route>
+pub(crate) fn route_of<'a>(
+    index: &RouteIndex,
+    routes: &'a [Route],
+    class: &[u8],
+    copy: u8,
+) -> Option<&'a Route>
+    requires index { HasAllRoutes index.now routes.now }
+    requires from { 1 ≤ copy }
+    requires to { copy ≤ 4 }
     ensures { option_copied result ≡ find (is_route_of class.now copy) routes.now }
 {
-    routes.iter().find(|r| r.class.is(class) && r.copy == copy)
+    item_at(routes, route_place(index, class, copy))
 }
 
-// Whether the rule is for a requester, or group, of this name.
-fn is_rule_for(rule: &Rule, kind: RuleKind, name: &[u8]) -> bool
-    ensures { result ≡ is_rule_for kind name.now rule.now }
+// The name of the policy of the rule at this place.
+fn policy_at(rules: &[Rule], place: Option<u32>) -> Option<&[u8]>
+    ensures { option_copied result ≡ option_map (λ (r : Rule). r.policy) (option_and_then (slice_get rules.now) place) }
 {
-    rule.kind == kind && rule.name.is(name)
-}
-
-// The name of the policy that the first such rule gives.
-pub(crate) fn policy_by_rule<'a>(rules: &'a [Rule], kind: RuleKind, name: &[u8]) -> Option<&'a [u8]>
-    ensures { option_copied result ≡ rule_policy rules.now kind name.now }
-{
-    match rules.iter().find(|r| is_rule_for(r, kind, name)) {
+    match item_at(rules, place) {
         Some(rule) => Some(rule.policy.as_bytes()),
         None => None,
     }
 }
 
+// The name of the policy that the rule for this name gives, by the places of a kind's rules.
+fn policy_by_rule<'a>(places: &NameMap, rules: &'a [Rule], name: &[u8]) -> Option<&'a [u8]>
+    ensures { (kind : RuleKind) → HasRules places.now rules.now kind → option_copied result ≡ rule_policy rules.now kind name.now }
+{
+    policy_at(rules, places.number(name))
+}
+
 // The name of a caller's policy.
 pub(crate) fn policy_name<'a>(
+    requesters: &NameMap,
+    groups: &NameMap,
     rules: &'a [Rule],
     default: &'a [u8],
     requester: &[u8],
     group: &[u8],
 ) -> &'a [u8]
+    requires requesters { HasRules requesters.now rules.now Requester }
+    requires groups { HasRules groups.now rules.now Group }
     ensures { result.now ≡ policy_name_in rules.now default.now requester.now group.now }
 {
-    match policy_by_rule(rules, RuleKind::Requester, requester) {
+    match policy_by_rule(requesters, rules, requester) {
         Some(policy) => policy,
-        None => match policy_by_rule(rules, RuleKind::Group, group) {
+        None => match policy_by_rule(groups, rules, group) {
             Some(policy) => policy,
             None => default,
         },
     }
 }
 
-// Whether the path begins with the directory and a slash.
-fn is_under(directory: &[u8], path: &[u8]) -> bool
-    ensures { result ≡ is_under directory.now path.now }
-{
-    let Some(rest) = strip(path, directory) else {
-        return false;
-    };
-    match strip(rest, b"/") {
-        Some(_) => true,
-        None => false,
-    }
-}
-
-// The directory with the longest path of those that the path is under.
-pub(crate) fn directory_of<'a>(directories: &'a [Directory], path: &[u8]) -> Option<&'a Directory>
+// The directory with the longest path of those that the path is under: each front of the path before a slash is looked
+// up, the longest first.
+pub(crate) fn directory_of<'a>(
+    places: &NameMap,
+    directories: &'a [Directory],
+    path: &[u8],
+) -> Option<&'a Directory>
+    requires { HasPlaces places.now (λ (d : Directory). d.path) directories.now }
     ensures { option_copied result ≡ longest (filter (λ (d : Directory). is_under d.path path.now) directories.now) }
 {
-    let mut best: Option<&Directory> = None;
-    for directory in directories {
-        if is_under(directory.path.as_bytes(), path) {
-            best = longer(best, directory);
+    for end in (0..path.len()).rev() {
+        if path[end] == b'/' {
+            if let Some(place) = places.number(&path[..end]) {
+                return item_at(directories, Some(place));
+            }
         }
     }
-    best
-}
-
-// The one with the longer path, and of two as long the former.
-fn longer<'a>(best: Option<&'a Directory>, directory: &'a Directory) -> Option<&'a Directory>
-    ensures { option_copied result ≡ longer_so_far (option_copied best.entry) directory.now }
-{
-    match best {
-        Some(best) if best.path.as_bytes().len() >= directory.path.as_bytes().len() => Some(best),
-        _ => Some(directory),
-    }
+    None
 }

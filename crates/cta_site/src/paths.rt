@@ -50,8 +50,9 @@ fn are_parts(bytes: &[u8]) -> bool
     }
 }
 
-// Whether a text is a path.
-pub(crate) fn is_path(text: &str) -> bool
+/// Whether a text is a path (this project's own): it begins with `/`, has 2 to 1,024 bytes, none below 0x20 and none 0x7F,
+/// and no part between its slashes is empty, `.` or `..`. Its cost is the length of the text.
+pub fn is_path(text: &str) -> bool
     ensures { result ≡ is_path text.now }
 {
     match text.as_bytes() {

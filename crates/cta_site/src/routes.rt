@@ -1,10 +1,12 @@
 // The rules on what elements say of one another.
-ghost use Rattle.std.specs.Prelude.{◌≡◌, ◌<◌, ◌≤◌, ◌==◌, ◌^◌, ◌&&◌, bytes_eq, find, filter, length, nat_le, not, ◌||◌, IfSome, option_copied};
+ghost use Rattle.std.specs.Prelude.{◌≡◌, ◌<◌, ◌≤◌, ◌==◌, ◌^◌, ◌&&◌, bytes_eq, find, length, nat_le, not, ◌||◌, IfOk, IfSome};
 ghost use Rattle.cta_site.specs.Items.{first_failing, is_among};
-ghost use Rattle.cta_site.specs.Lookups.{copies_in, is_route_of, vo_name};
+ghost use Rattle.cta_site.specs.Index.{HasPlaces, HasCounts, HasAllCounts};
+ghost use Rattle.cta_site.specs.Lookups.{vo_name};
+ghost use Rattle.cta_site.specs.NameMap.{count_in};
 ghost use Rattle.cta_site.specs.Paths.{is_path};
 ghost use Rattle.cta_site.specs.References as said;
-ghost use Rattle.cta_site.specs.ValidSite.{class_names};
+ghost use Rattle.cta_site.specs.WellFormed.{AreCounts};
 ghost use Rattle.cta_site.specs.declared.site.Class.{Class};
 ghost use Rattle.cta_site.specs.declared.site.TapePool.{TapePool};
 ghost use Rattle.cta_site.specs.declared.site.Rule.{Rule};
@@ -13,101 +15,116 @@ ghost use Rattle.cta_site.specs.declared.site.Drive.{Drive};
 ghost use Rattle.cta_site.specs.declared.site.Directory.{Directory};
 ghost use Rattle.cta_site.specs.declared.site.Failure.{Failure};
 ghost use Rattle.cta_site.specs.declared.site.Route.{Route};
+ghost use Rattle.cta_site.specs.declared.site.Site.{Site};
 
-use crate::lookups::is_route_of;
+use crate::lookups::element_of;
+use crate::name_map::NameMap;
 use crate::names::Names;
+use crate::no_memory::NoMemory;
 use crate::paths::is_path;
 use crate::site::{Class, Directory, Drive, Failure, Route, Rule, Site, Tape, TapePool};
+use crate::tally::Tally;
+use std::alloc::Global;
 
-// Whether a copy of a class has exactly one route. Its cost is the number of routes.
-fn has_one_route(routes: &[Route], class: &[u8], copy: u8) -> bool
-    ensures { result ≡ (length (filter (is_route_of class.now copy) routes.now) == 1) }
+// How many routes each class has for this copy.
+fn routes_counted(alloc: Global, routes: &[Route], copy: u8) -> Result<Tally, NoMemory>
+    requires { length routes.now ≤ 4096 }
+    ensures { IfOk result (λ tally. HasCounts tally routes.now copy) }
 {
-    let mut number: usize = 0;
+    let mut tally = Tally::new(alloc);
     for route in routes {
-        if is_route_of(route, class, copy) {
-            number += 1;
+        if route.copy == copy {
+            tally.add(alloc, route.class.as_bytes())?;
         }
     }
-    number == 1
+    Ok(tally)
 }
 
-// Whether a copy is beyond a class's copies, or has exactly one route.
-fn is_routed(site: &Site, class: &Class, copy: u8) -> bool
-    ensures { result ≡ (not (nat_le copy class.now.copies) || said.has_one_route site.now class.now copy) }
+// How many routes each class has, for each copy.
+#[derive(Drop)]
+struct RouteCounts {
+    first: Tally,
+    second: Tally,
+    third: Tally,
+    fourth: Tally,
+}
+
+impl RouteCounts {
+    fn of(alloc: Global, routes: &[Route]) -> Result<RouteCounts, NoMemory>
+        requires { length routes.now ≤ 4096 }
+        ensures { IfOk result (λ counts. HasAllCounts counts routes.now) }
+    {
+        let first = routes_counted(alloc, routes, 1)?;
+        let second = routes_counted(alloc, routes, 2)?;
+        let third = routes_counted(alloc, routes, 3)?;
+        let fourth = routes_counted(alloc, routes, 4)?;
+        Ok(RouteCounts {
+            first,
+            second,
+            third,
+            fourth,
+        })
+    }
+}
+
+// Whether a copy is beyond a class's copies, or was counted exactly once.
+fn is_routed(counts: &Tally, class: &Class, copy: u8) -> bool
+    ensures { result ≡ (not (nat_le copy class.now.copies) || count_in counts.now class.now.name == 1) }
 {
-    copy > class.copies || has_one_route(site.routes.as_slice(), class.name.as_bytes(), copy)
+    copy > class.copies || counts.count(class.name.as_bytes()) == 1
 }
 
 // Whether each of a class's copies has exactly one route.
-fn class_has_routes(site: &Site, class: &Class) -> bool
-    ensures { result ≡ said.class_has_routes site.now class.now }
+fn class_has_routes(counts: &RouteCounts, class: &Class) -> bool
+    ensures { (site : Site) → HasAllCounts counts.now site.routes.items → result ≡ said.class_has_routes site class.now }
 {
-    is_routed(site, class, 1)
-        && is_routed(site, class, 2)
-        && is_routed(site, class, 3)
-        && is_routed(site, class, 4)
-}
-
-// The class of this name.
-fn class_named<'a>(classes: &'a [Class], name: &[u8]) -> Option<&'a Class>
-    ensures { option_copied result ≡ find (λ (c : Class). bytes_eq c.name name.now) classes.now }
-{
-    classes.iter().find(|c| c.name.is(name))
-}
-
-// The pool of this name.
-fn pool_named<'a>(pools: &'a [TapePool], name: &[u8]) -> Option<&'a TapePool>
-    ensures { option_copied result ≡ find (λ (p : TapePool). bytes_eq p.name name.now) pools.now }
-{
-    pools.iter().find(|p| p.name.is(name))
-}
-
-// The copies of the class of this name, 0 where there is none.
-fn copies_named(classes: &[Class], name: &[u8]) -> u8
-    ensures { result ≡ copies_in (find (λ (c : Class). bytes_eq c.name name.now) classes.now) }
-{
-    match class_named(classes, name) {
-        Some(class) => class.copies,
-        None => 0,
-    }
+    is_routed(&counts.first, class, 1)
+        && is_routed(&counts.second, class, 2)
+        && is_routed(&counts.third, class, 3)
+        && is_routed(&counts.fourth, class, 4)
 }
 
 // The virtual organisation of the class of this name, empty where there is none.
-fn class_vo<'a>(classes: &'a [Class], name: &[u8]) -> &'a [u8]
+fn class_vo<'a>(places: &NameMap, classes: &'a [Class], name: &[u8]) -> &'a [u8]
+    requires { HasPlaces places.now (λ (c : Class). c.name) classes.now }
     ensures { result.now ≡ said.class_vo (find (λ (c : Class). bytes_eq c.name name.now) classes.now) }
 {
-    match class_named(classes, name) {
+    match element_of(places, classes, name) {
         Some(class) => class.vo.as_bytes(),
         None => b"",
     }
 }
 
 // The virtual organisation of the pool of this name, empty where there is none.
-fn pool_vo<'a>(pools: &'a [TapePool], name: &[u8]) -> &'a [u8]
+fn pool_vo<'a>(places: &NameMap, pools: &'a [TapePool], name: &[u8]) -> &'a [u8]
+    requires { HasPlaces places.now (λ (p : TapePool). p.name) pools.now }
     ensures { result.now ≡ vo_name (find (λ (p : TapePool). bytes_eq p.name name.now) pools.now) }
 {
-    match pool_named(pools, name) {
+    match element_of(places, pools, name) {
         Some(pool) => pool.vo.as_bytes(),
         None => b"",
     }
 }
 
 // Whether a route's class exists, and has its copy.
-fn route_has_class(site: &Site, classes: &Names, route: &Route) -> bool
-    requires { classes.now ≡ class_names site.now }
+fn route_has_class(site: &Site, classes: &NameMap, route: &Route) -> bool
+    requires { HasPlaces classes.now (λ (c : Class). c.name) site.now.classes.items }
     ensures { result ≡ said.route_has_class site.now route.now }
 {
-    classes.has(route.class.as_bytes())
-        && route.copy <= copies_named(site.classes.as_slice(), route.class.as_bytes())
+    match element_of(classes, site.classes.as_slice(), route.class.as_bytes()) {
+        Some(class) => route.copy <= class.copies,
+        None => false,
+    }
 }
 
 // Whether a route's pool has the virtual organisation of its class.
-fn route_keeps_vo(site: &Site, route: &Route) -> bool
+fn route_keeps_vo(site: &Site, classes: &NameMap, pools: &NameMap, route: &Route) -> bool
+    requires classes { HasPlaces classes.now (λ (c : Class). c.name) site.now.classes.items }
+    requires pools { HasPlaces pools.now (λ (p : TapePool). p.name) site.now.pools.items }
     ensures { result ≡ said.route_keeps_vo site.now route.now }
 {
-    class_vo(site.classes.as_slice(), route.class.as_bytes())
-        == pool_vo(site.pools.as_slice(), route.pool.as_bytes())
+    class_vo(classes, site.classes.as_slice(), route.class.as_bytes())
+        == pool_vo(pools, site.pools.as_slice(), route.pool.as_bytes())
 }
 
 // Whether a tape's pool and library exist.
@@ -207,21 +224,32 @@ pub(crate) fn directory_without_class(directories: &[Directory], classes: &Names
 }
 
 // The place of the first class of which a copy doesn't have exactly one route.
-pub(crate) fn class_without_routes(site: &Site) -> Option<usize>
-    requires { length site.now.classes.items ≤ 4096 }
+pub(crate) fn class_without_routes(alloc: Global, site: &Site) -> Result<Option<usize>, NoMemory>
+    requires { AreCounts site.now }
+    ensures value { IfOk result (λ place. place ≡ first_failing (said.class_has_routes site.now) site.now.classes.items) }
+    ensures within { IfOk result (λ place. IfSome place (λ i. i < 2 ^ 32)) }
+{
+    let counts = RouteCounts::of(alloc, site.routes.as_slice())?;
+    Ok(class_uncounted(&counts, site))
+}
+
+// The place of the first class of which a copy wasn't counted exactly once.
+fn class_uncounted(counts: &RouteCounts, site: &Site) -> Option<usize>
+    requires small { length site.now.classes.items ≤ 4096 }
+    requires counts { HasAllCounts counts.now site.now.routes.items }
     ensures value { result ≡ first_failing (said.class_has_routes site.now) site.now.classes.items }
     ensures within { IfSome result (λ i. i < 2 ^ 32) }
 {
     site.classes
         .as_slice()
         .iter()
-        .position(|c| !class_has_routes(site, c))
+        .position(|c| !class_has_routes(counts, c))
 }
 
 // The place of the first route whose class doesn't exist or hasn't its copy.
-pub(crate) fn route_without_class(site: &Site, classes: &Names) -> Option<usize>
+pub(crate) fn route_without_class(site: &Site, classes: &NameMap) -> Option<usize>
     requires small { length site.now.routes.items ≤ 4096 }
-    requires names { classes.now ≡ class_names site.now }
+    requires classes { HasPlaces classes.now (λ (c : Class). c.name) site.now.classes.items }
     ensures value { result ≡ first_failing (said.route_has_class site.now) site.now.routes.items }
     ensures within { IfSome result (λ i. i < 2 ^ 32) }
 {
@@ -232,13 +260,15 @@ pub(crate) fn route_without_class(site: &Site, classes: &Names) -> Option<usize>
 }
 
 // The place of the first route whose pool has another virtual organisation than its class.
-pub(crate) fn route_across_vos(site: &Site) -> Option<usize>
-    requires { length site.now.routes.items ≤ 4096 }
+pub(crate) fn route_across_vos(site: &Site, classes: &NameMap, pools: &NameMap) -> Option<usize>
+    requires small { length site.now.routes.items ≤ 4096 }
+    requires classes { HasPlaces classes.now (λ (c : Class). c.name) site.now.classes.items }
+    requires pools { HasPlaces pools.now (λ (p : TapePool). p.name) site.now.pools.items }
     ensures value { result ≡ first_failing (said.route_keeps_vo site.now) site.now.routes.items }
     ensures within { IfSome result (λ i. i < 2 ^ 32) }
 {
     site.routes
         .as_slice()
         .iter()
-        .position(|r| !route_keeps_vo(site, r))
+        .position(|r| !route_keeps_vo(site, classes, pools, r))
 }

@@ -1,20 +1,20 @@
 // A site that keeps its rules.
 ghost use Rattle.std.specs.Prelude.{◌≡◌, ◌<◌, length, IfOk};
 ghost use Rattle.cta_site.specs.Bare.{bare_site};
-ghost use Rattle.cta_site.specs.Laws.{DrivesAreNamed, DrivesAreFound, TapesAreNamed, TapesAreFound, ClassesAreKnown, PoliciesAreKnown};
+ghost use Rattle.cta_site.specs.Laws.{DrivesAreNamed, DrivesAreFound, TapesAreNamed, TapesAreFound, ClassesAreKnown, PoliciesAreKnown, CopiesAreRouted};
 ghost use Rattle.cta_site.specs.Lookups.{class_of, copies_of, policy_of, pool_of, drive_of, tape_of, HasRoute};
 ghost use Rattle.cta_site.specs.ValidSite.{IsValidSite};
+ghost use Rattle.cta_site.specs.WellFormed.{IsWellFormed};
 
-use crate::lookups::{
-    class_number, copies_at, directory_of, drive_place, policy_name, policy_number, pool_number,
-    route_of, tape_place,
-};
+use crate::index::Index;
+use crate::lookups::{copies_at, directory_of, number_of, policy_name, route_of};
 use crate::no_memory::NoMemory;
 use crate::site::{
     Class, Directory, Drive, Failure, Limits, Policy, Route, Rule, Site, Tape, TapePool, Vo,
 };
 use crate::text::Text;
 use crate::twin::site_twin;
+use std::alloc::Global;
 use std::marker::Model;
 
 /// A site that keeps the rules of a site (this project's own). Contracts see it as the `Site`, with no room to spare in
@@ -25,32 +25,38 @@ use std::marker::Model;
 #[derive(Drop)]
 pub struct ValidSite {
     site: Site,
+    index: Index,
 }
 
 impl Model for ValidSite {
     ghost use Rattle.cta_site.specs.declared.site.Site.{Site};
     ghost use Rattle.cta_site.specs.Bare.{bare_site};
+    ghost use Rattle.cta_site.specs.Index.{IsIndexOf};
     ghost use Rattle.cta_site.specs.ValidSite.{IsValidSite};
+    ghost use Rattle.cta_site.specs.WellFormed.{IsWellFormed};
 
     ghost Value = { Site };
 
     ghost view = { λ v. bare_site v.site };
 
-    ghost invariant = { λ v. IsValidSite (bare_site v.site) };
+    ghost invariant = { λ v. IsValidSite (bare_site v.site) × IsWellFormed (bare_site v.site) × IsIndexOf v.index v.site };
 }
 
 impl ValidSite {
     // The valid site that this site is.
-    pub(crate) fn of(site: Site) -> ValidSite
+    pub(crate) fn of(alloc: Global, site: Site) -> Result<ValidSite, NoMemory>
         requires { IsValidSite (bare_site site) }
-        ensures { result ≡ bare_site site }
+        ensures { IfOk result (λ valid. valid ≡ bare_site site) }
     {
-        ValidSite { site }
+        let index = Index::of(alloc, &site)?;
+        Ok(ValidSite { site, index })
     }
 
-    /// That the site keeps the rules of a site: a law, which does nothing when it runs.
+    /// That the site keeps rules 3 to 30 of a site, with its numbered lists in order, and what follows part by part: a
+    /// law, which does nothing when it runs.
     pub fn keeps_rules(&self)
-        ensures { IsValidSite self.now }
+        ensures valid { IsValidSite self.now }
+        ensures parts { IsWellFormed self.now }
     {
         let _site = &self.site;
     }
@@ -66,11 +72,12 @@ impl ValidSite {
         let _site = &self.site;
     }
 
-    /// That a path's class and a caller's policy are the site's own, and that a path with a class has 1 to 4 copies. A
-    /// law, which does nothing when it runs.
+    /// That a path's class, a caller's policy and a copy's pool are the site's own, and that a path with a class has 1 to 4
+    /// copies. A law, which does nothing when it runs.
     pub fn numbers_are_known(&self)
         ensures classes { ClassesAreKnown self.now }
         ensures policies { PoliciesAreKnown self.now }
+        ensures pools { CopiesAreRouted self.now }
     {
         let _site = &self.site;
     }
@@ -197,13 +204,17 @@ impl ValidSite {
 
     /// The number of the storage class that a path has: that of the longest site directory such that the path begins
     /// with it and a slash. None exactly where no site directory is so. The site has the class (`numbers_are_known`).
-    /// Its cost is the sum of the lengths of the directories' paths and the number of classes.
+    /// Its cost is a look-up in logarithmic time for each slash of the path.
     pub fn class_of(&self, path: &[u8]) -> Option<u32>
         ensures { result ≡ class_of self.now path.now }
     {
         let classes = self.site.classes.as_slice();
-        match directory_of(self.site.directories.as_slice(), path) {
-            Some(directory) => Some(class_number(classes, directory.class.as_bytes())),
+        let directories = self.site.directories.as_slice();
+        match directory_of(&self.index.directories, directories, path) {
+            Some(directory) => {
+                let class = directory.class.as_bytes();
+                Some(number_of(&self.index.classes, classes, class))
+            }
             None => None,
         }
     }
@@ -220,55 +231,58 @@ impl ValidSite {
     }
 
     /// The number of the mount policy of a caller: of the requester's rule, else of the group's rule, else the default
-    /// policy. The site has the policy (`numbers_are_known`). Its cost is the number of rules and policies.
+    /// policy. The site has the policy (`numbers_are_known`). It takes logarithmic time.
     pub fn policy_of(&self, requester: &[u8], group: &[u8]) -> u32
         ensures { result ≡ policy_of self.now requester.now group.now }
     {
-        let rules = self.site.rules.as_slice();
-        let default = self.site.default_policy.as_bytes();
-        let name = policy_name(rules, default, requester, group);
-        policy_number(self.site.policies.as_slice(), name)
+        let name = policy_name(
+            &self.index.requesters,
+            &self.index.groups,
+            self.site.rules.as_slice(),
+            self.site.default_policy.as_bytes(),
+            requester,
+            group,
+        );
+        number_of(&self.index.policies, self.site.policies.as_slice(), name)
     }
 
     /// The number of the pool that this copy, counted from 1, of the storage class of this number goes to. The site
-    /// must have the class and a route for the copy. Its cost is the number of routes and pools.
+    /// must have the class and a route for the copy. It takes logarithmic time.
     pub fn pool_of(&self, class: u32, copy: u8) -> u32
         requires class { class < length self.now.classes.items }
         requires route { HasRoute self.now class copy }
         ensures { result ≡ pool_of self.now class copy }
     {
         let class = &self.site.classes.as_slice()[class as usize];
-        match route_of(self.site.routes.as_slice(), class.name.as_bytes(), copy) {
-            Some(route) => pool_number(self.site.pools.as_slice(), route.pool.as_bytes()),
+        let routes = self.site.routes.as_slice();
+        match route_of(&self.index.routes, routes, class.name.as_bytes(), copy) {
+            Some(route) => {
+                let pools = self.site.pools.as_slice();
+                number_of(&self.index.pools, pools, route.pool.as_bytes())
+            }
             None => unreachable!(),
         }
     }
 
-    /// The number of the drive of this name, None exactly where no drive has it. Its cost is the number of drives.
+    /// The number of the drive of this name, None exactly where no drive has it. It takes logarithmic time.
     pub fn drive_of(&self, name: &[u8]) -> Option<u32>
         ensures { result ≡ drive_of self.now name.now }
     {
-        match drive_place(self.site.drives.as_slice(), name) {
-            Some(place) => Some(place as u32),
-            None => None,
-        }
+        self.index.drives.number(name)
     }
 
-    /// The number of the tape of this VID, None exactly where no tape has it. Its cost is the number of tapes.
+    /// The number of the tape of this VID, None exactly where no tape has it. It takes logarithmic time.
     pub fn tape_of(&self, vid: &[u8]) -> Option<u32>
         ensures { result ≡ tape_of self.now vid.now }
     {
-        match tape_place(self.site.tapes.as_slice(), vid) {
-            Some(place) => Some(place as u32),
-            None => None,
-        }
+        self.index.tapes.number(vid)
     }
 
     /// An equal site. Its cost is the size of the site's texts and lists; NoMemory changes nothing.
-    pub fn copy(&self) -> Result<ValidSite, NoMemory>
+    pub fn copy(&self, alloc: Global) -> Result<ValidSite, NoMemory>
         ensures { IfOk result (λ site. site ≡ self.now) }
     {
         let site = site_twin(&self.site)?;
-        Ok(ValidSite::of(site))
+        ValidSite::of(alloc, site)
     }
 }

@@ -14,7 +14,8 @@ use Rattle.cta_site.specs.declared.site.Site.{Site}
 use Rattle.cta_site.specs.declared.site.Drive.{Drive}
 use Rattle.cta_site.specs.Lookups.{place_by}
 use Rattle.cta_site.specs.Names.{IsName, AreAscending, is_name_byte}
-use Rattle.cta_site.specs.ValidSite.{IsValidSite, drive_names}
+use Rattle.cta_site.specs.Names.{drive_names}
+use Rattle.cta_site.specs.WellFormed.{IsWellFormed}
 use Rattle.replay.specs.Bytes.{Without}
 use Rattle.replay.specs.Line.{drive_name}
 use Rattle.replay.proofs.Messages.{holds_at}
@@ -61,7 +62,7 @@ length-names [] = refl
 length-names (d ∷ ds) = ap suc (length-names ds)
 
 -- the name of a drive of a valid site has no byte that is none of a name's
-pub Without-drive : (c : ℕ) (site : Site) (drive : ℕ) → is_name_byte c ≡ false → IsValidSite site → drive < length site.drives.items → Without c (drive_name site drive)
+pub Without-drive : (c : ℕ) (site : Site) (drive : ℕ) → is_name_byte c ≡ false → IsWellFormed site → drive < length site.drives.items → Without c (drive_name site drive)
 Without-drive c site drive other valid h =
     let name : IsName (drive_name site drive) = holds_at IsName (drive_names site) drive [] valid.names.drives (omega (arith, length-names site.drives.items)) in
     plain_bytes c (drive_name site drive) other name.bytes
@@ -83,7 +84,7 @@ names_apart (n ∷ names) (suc i) zero up h k e =
 names_apart (n ∷ names) (suc i) (suc j) up h k e = ap suc (names_apart names i j up.1 (omega arith) (omega arith) e)
 
 -- the drives of a valid site differ in their names
-pub same_drive : (site : Site) (i j : ℕ) → IsValidSite site → i < length site.drives.items → j < length site.drives.items → drive_name site i ≡ drive_name site j → i ≡ j
+pub same_drive : (site : Site) (i j : ℕ) → IsWellFormed site → i < length site.drives.items → j < length site.drives.items → drive_name site i ≡ drive_name site j → i ≡ j
 same_drive site i j valid h k e =
     let n = length-names site.drives.items in
     names_apart (drive_names site) i j valid.numbered.drives (omega arith) (omega arith) e

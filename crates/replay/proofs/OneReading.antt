@@ -5,7 +5,7 @@ use Rattle.std.specs.Fmt.{decimal}
 use Rattle.std.proofs.lemmas.Fmt.{decimal_injective}
 use Rattle.std.proofs.lemmas.List.{append_cancel_left}
 use Rattle.cta_site.specs.declared.site.Site.{Site}
-use Rattle.cta_site.specs.ValidSite.{IsValidSite}
+use Rattle.cta_site.specs.WellFormed.{IsWellFormed}
 use Rattle.replay.specs.Bytes.{Without}
 use Rattle.replay.specs.Line.{text, http_text, step_words, drive_name, IsHttp, IsStep, IsLine}
 use Rattle.replay.specs.Script.{Event, Held, OneMessage, NoMessage, held_bytes, IsHeld, Tail, Ended, InLine, InBytes, BadLine, LongLine, NoLf, UnbuiltStep, UnbuiltBytes, IsTail, IsEvent, HasOneReading, ended, whole_bytes, tail_bytes, spelling}
@@ -18,7 +18,7 @@ use Rattle.replay.proofs.Readings.{same_record, against, below_event, spelled, i
 
 -- ---- lines
 
-module _ (site : Site) (valid : IsValidSite site) where
+module _ (site : Site) (valid : IsWellFormed site) where
   Without-step : (drive moment : ℕ) → IsStep site drive moment → Without 10 (text site (Step drive moment))
   Without-step drive moment h =
       Without-word (codes "step") (step_words site drive moment) ((λ e. omega arith), ((λ e. omega arith), ((λ e. omega arith), ((λ e. omega arith), tt))))
@@ -98,7 +98,7 @@ is_front site (NoLf link moment held byte) h = h.0
 is_front site (UnbuiltStep drive moment) h = h
 is_front site (UnbuiltBytes link moment bytes) h = h.0
 
-module _ (site : Site) (valid : IsValidSite site) where
+module _ (site : Site) (valid : IsWellFormed site) where
   same_front_of : (f g : Front) → IsFrontOf site f → IsFrontOf site g → front_bytes site f ≡ front_bytes site g → f ≡ g
   same_front_of (Said l r) (Said l' r') p q e =
       let h = same_words 10 (text site l) (text site l') r r' (Without-line site valid l p) (Without-line site valid l' q) e in
@@ -188,7 +188,7 @@ module _ (site : Site) where
 
 -- ---- whole records and a tail
 
-module _ (site : Site) (valid : IsValidSite site) where
+module _ (site : Site) (valid : IsWellFormed site) where
   same_tail : (t u : Tail) → IsTail site t → IsTail site u → tail_bytes site t ≡ tail_bytes site u → t ≡ u
   same_tail t u h k e =
       let same = same_front_of site valid (front_of t) (front_of u) (is_front site t h) (is_front site u k) (sym (fronted site t) ∙ e ∙ fronted site u) in

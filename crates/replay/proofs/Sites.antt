@@ -1,50 +1,109 @@
 -- The site that a site file tells.
-use Rattle.std.proofs.Common.{◌≡◌, ℕ, ◌<◌, ◌≤◌, ◌^◌, inr, List, length, codes, Option, Result, Ok, Err, sym, ap, ◌∙◌, arith}
+use Rattle.std.proofs.Common.{◌≡◌, ◌+◌, ◌≤◌, ℕ, inl, inr, List, length, true, false, Option, Some, None, Result, Ok, Err, refl, sym, ap, ◌∙◌, arith, ◌&&◌, subst}
+use Rattle.std.proofs.lemmas.Bool.{cases_Bool}
+use Rattle.std.proofs.lemmas.Bool.Decides.{nat_tests}
+use Rattle.std.specs.Prelude.{MatchResult, nat_le}
+use Rattle.std.specs.Option.{option_or}
 use Rattle.std.specs.Io.KnownBytes.{Consumes, IsAtEnd}
-use Rattle.cta_site.specs.FirstSite.{IsFirstSite, AreFirstLimits, first_site, first_site_text, text_before, text_from_file, text_from_history, text_behind, then_number}
-use Rattle.std.specs.Fmt.{decimal}
-use Rattle.std.proofs.lemmas.Fmt.{decimal_injective}
-use Rattle.std.proofs.lemmas.List.{append_cancel_left}
+use Rattle.std.specs.Str.{is_utf8}
+use Rattle.cta_site.specs.declared.check.SiteError.{SiteError}
+use Rattle.cta_site.specs.declared.check.SiteError.TheVariants as error
 use Rattle.cta_site.specs.declared.site.Site.{Site}
+use Rattle.cta_site.specs.Bare.{bare_site}
+use Rattle.cta_site.specs.Faults.{first_fault, IsCauseOf}
+use Rattle.cta_site.specs.Numbering.{IsNumberedFrom, Rearranges}
+use Rattle.site_json.specs.File.{file_fault, file_of, fault_within, site_of}
 use Rattle.cta_model.specs.Kept.{Kept}
-use Rattle.replay.proofs.Parts.{same_words, Without-decimal}
-use Rattle.replay.specs.SiteFile.{ArchiveMade, NoArchive, NoSite, SiteRead, site_limit}
+use Rattle.replay.specs.SiteFile.{ArchiveMade, IsSiteOf, NoArchive, NoSite, SiteRead, site_fault, site_limit}
 use Rattle.replay.specs.declared.status.Status.{Status}
 use Rattle.replay.specs.declared.status.Status.TheVariants.{Usage, Site as SiteRule, Script, ReadFault, WriteFault, NoMemory, TooLong, ListenFault, NotBuilt}
 use Rattle.replay.specs.declared.status.Status.TheVariants as status
 
-no_site : (s : Status) (bytes : List ℕ) (left left' : Option (List ℕ)) (f f' : ℕ) → Consumes left left' bytes → IsAtEnd left' → length bytes ≤ site_limit → NoArchive s bytes → NoSite s left left' f f'
-no_site (NotBuilt offset) bytes left left' f f' took at fits h = (h.0, (bytes, took, inr (at, fits, h.1)))
-no_site NoMemory bytes left left' f f' took at fits h = tt
-no_site status.Ok bytes left left' f f' took at fits h = h
-no_site Usage bytes left left' f f' took at fits h = h
-no_site (SiteRule rule item) bytes left left' f f' took at fits h = h
-no_site (Script offset) bytes left left' f f' took at fits h = h
-no_site ReadFault bytes left left' f f' took at fits h = absurd h
-no_site WriteFault bytes left left' f f' took at fits h = h
-no_site TooLong bytes left left' f f' took at fits h = h
-no_site ListenFault bytes left left' f f' took at fits h = h
+no_site : (s : Status) (bytes : List ℕ) (left left' : Option (List ℕ)) (f f' : ℕ) → Consumes left left' bytes → IsAtEnd left' → NoArchive s bytes → NoSite s left left' f f'
+no_site (SiteRule rule item) bytes left left' f f' took at h = (bytes, took, inr at, h)
+no_site NoMemory bytes left left' f f' took at h = tt
+no_site status.Ok bytes left left' f f' took at h = h
+no_site Usage bytes left left' f f' took at h = h
+no_site (Script offset) bytes left left' f f' took at h = h
+no_site ReadFault bytes left left' f f' took at h = absurd h
+no_site WriteFault bytes left left' f f' took at h = h
+no_site TooLong bytes left left' f f' took at h = h
+no_site ListenFault bytes left left' f f' took at h = h
+no_site (NotBuilt offset) bytes left left' f f' took at h = h
 
 -- an archive made of the whole site file
-pub site_read : (r : Result Kept Status) (bytes : List ℕ) (left left' : Option (List ℕ)) (f f' : ℕ) → Consumes left left' bytes → IsAtEnd left' → length bytes ≤ site_limit → ArchiveMade r bytes → SiteRead r left left' f f'
-site_read (Ok archive) bytes left left' f f' took at fits h = ((bytes, took, at, fits, h.0), h.1)
-site_read (Err s) bytes left left' f f' took at fits h = no_site s bytes left left' f f' took at fits h
+pub site_read : (r : Result Kept Status) (bytes : List ℕ) (left left' : Option (List ℕ)) (f f' : ℕ) → Consumes left left' bytes → IsAtEnd left' → ArchiveMade r bytes → SiteRead r left left' f f'
+site_read (Ok archive) bytes left left' f f' took at h = ((bytes, took, at, h.0), h.1)
+site_read (Err s) bytes left left' f f' took at h = no_site s bytes left left' f f' took at h
 
--- ---- one text tells one site
+-- too many bytes break rule 1
+pub too_long : (bytes : List ℕ) → site_limit + 1 ≤ length bytes → site_fault bytes ≡ Some (1, 0)
+unfolding file_of
+too_long bytes long =
+    let over : nat_le (length bytes) 16777216 ≡ false = grind (arith, nat_tests) in
+    let none : file_of bytes ≡ None = rw over refl in
+    ap (λ o. option_or (fault_within o) (first_fault (site_of bytes))) none
 
-same_number : (m n : ℕ) (x y : List ℕ) → m < 2 ^ 64 → n < 2 ^ 64 → then_number m x ≡ then_number n y → (m ≡ n) × (x ≡ y)
-same_number m n x y low high e =
-    let s = same_words 44 (decimal m) (decimal n) x y (Without-decimal 44 m (omega arith) low) (Without-decimal 44 n (omega arith) high) e in
-    (decimal_injective m n low high s.0, s.1)
+-- a file that breaks no rule has no more bytes than it may have
+pub not_long : (bytes : List ℕ) → site_fault bytes ≡ None → length bytes ≤ site_limit
+not_long bytes kept =
+    elim (cases_Bool (nat_le (length bytes) 16777216)) [
+      | inl fits ↦ grind (arith, nat_tests)
+      | inr over ↦
+          let long : site_limit + 1 ≤ length bytes = grind (arith, nat_tests) in
+          let broken = too_long bytes long in
+          absurd (cc)
+    ]
 
-same_limits : (b f h b' f' h' : ℕ) → AreFirstLimits b f h → AreFirstLimits b' f' h' → first_site_text b f h ≡ first_site_text b' f' h' → (b ≡ b') × (f ≡ f') × (h ≡ h')
-same_limits b f h b' f' h' p q e =
-    let x = same_number b b' (text_from_file f h) (text_from_file f' h') (omega (arith, p.buffer_to)) (omega (arith, q.buffer_to)) (append_cancel_left text_before (then_number b (text_from_file f h)) (then_number b' (text_from_file f' h')) e) in
-    let y = same_number f f' (text_from_history h) (text_from_history h') (omega (arith, p.file_to)) (omega (arith, q.file_to)) (append_cancel_left (codes "\"file\":") (then_number f (text_from_history h)) (then_number f' (text_from_history h')) x.1) in
-    let z = same_number h h' text_behind text_behind (omega (arith, p.history_to)) (omega (arith, q.history_to)) (append_cancel_left (codes "\"history\":") (then_number h text_behind) (then_number h' text_behind) y.1) in
-    (x.0, y.0, z.0)
+-- what a site that was read breaks, and how it is numbered, by what its file tells
+pub numbered_told : (s file valid : Site) → bare_site s ≡ file → IsNumberedFrom s valid → IsNumberedFrom file valid
+numbered_told s file valid told n = subst (λ f. IsNumberedFrom f valid) told (record { same = bare_same n.same; in_order = n.in_order; bare = n.bare })
+  where
+    bare_same : Rearranges s valid → Rearranges (bare_site s) valid
+    bare_same r = record {
+      version = r.version;
+      sitename = r.sitename;
+      endpoint = r.endpoint;
+      default_policy = r.default_policy;
+      repack_policy = r.repack_policy;
+      limits = r.limits;
+      vos = r.vos;
+      classes = r.classes;
+      pools = r.pools;
+      routes = r.routes;
+      policies = r.policies;
+      rules = r.rules;
+      libraries = r.libraries;
+      tapes = r.tapes;
+      drives = r.drives;
+      directories = r.directories;
+      failures = r.failures;
+    }
 
-pub one_site : (bytes : List ℕ) (s s' : Site) → IsFirstSite bytes s → IsFirstSite bytes s' → s ≡ s'
-one_site bytes s s' p q =
-    let e = same_limits p.buffer p.file p.history q.buffer q.file q.history p.in_range q.in_range (sym p.spelled ∙ q.spelled) in
-    p.value ∙ ap (λ b. first_site b p.file p.history) e.0 ∙ ap (λ f. first_site q.buffer f p.history) e.1 ∙ ap (λ h. first_site q.buffer q.file h) e.2 ∙ sym q.value
+pub site_checked : (bytes : List ℕ) (s valid : Site) → file_fault bytes ≡ None → bare_site s ≡ site_of bytes → first_fault s ≡ None → IsNumberedFrom s valid → IsSiteOf bytes valid
+site_checked bytes s valid read told kept numbered =
+    let rest : first_fault (site_of bytes) ≡ None = sym (ap first_fault told) ∙ kept in
+    record { kept = rw (read, rest) refl; numbered = numbered_told s (site_of bytes) valid told numbered }
+
+-- an error of the file is the first, one of the site follows where the file has none
+pub file_error : (e : SiteError) (bytes : List ℕ) → IsCauseOf e (file_fault bytes) → IsCauseOf e (site_fault bytes)
+file_error (error.Fault rule item) bytes cause = rw cause refl
+file_error error.NoMemory bytes cause = tt
+
+pub site_error : (e : SiteError) (bytes : List ℕ) (s : Site) → file_fault bytes ≡ None → bare_site s ≡ site_of bytes → IsCauseOf e (first_fault s) → IsCauseOf e (site_fault bytes)
+site_error (error.Fault rule item) bytes s read told cause =
+    let rest : first_fault (site_of bytes) ≡ Some (rule, item) = sym (ap first_fault told) ∙ cause in
+    rw (read, rest) refl
+site_error error.NoMemory bytes s read told cause = tt
+
+-- what the check of a site that was read says of its file
+pub checked_told : (bytes : List ℕ) (s : Site) (r : Result Site SiteError) → file_fault bytes ≡ None → bare_site s ≡ site_of bytes → MatchResult r (λ valid. (first_fault s ≡ None) × IsNumberedFrom s valid) (λ e. IsCauseOf e (first_fault s)) → MatchResult r (IsSiteOf bytes) (λ e. IsCauseOf e (site_fault bytes))
+checked_told bytes s (Ok valid) read told h = site_checked bytes s valid read told h.0 h.1
+checked_told bytes s (Err e) read told h = site_error e bytes s read told h
+
+pub one_site : (bytes : List ℕ) (s s' : Site) → ((file a b : Site) → first_fault file ≡ None → IsNumberedFrom file a → IsNumberedFrom file b → a ≡ b) → IsSiteOf bytes s → IsSiteOf bytes s' → s ≡ s'
+one_site bytes s s' one p q = one (site_of bytes) s s' (second (file_fault bytes) (first_fault (site_of bytes)) p.kept) p.numbered q.numbered
+  where
+    second : (a b : Option (ℕ × ℕ)) → option_or a b ≡ None → b ≡ None
+    second None b e = e
+    second (Some x) b e = absurd (cc)

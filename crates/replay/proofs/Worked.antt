@@ -7,7 +7,8 @@ use Rattle.replay.specs.Reply.{reply_text}
 use Rattle.replay.specs.Script.{IsEvent, ended, whole_bytes}
 use Rattle.replay.specs.Output.{output_of, answered, kept_then, frame}
 use Rattle.replay.specs.Outcome.{ReachesEnd}
-use Rattle.replay.specs.Examples.{small_site, put_and_ask, put_and_ask_script, put_and_ask_output}
+use Rattle.cta_site.specs.Sites.{small_site}
+use Rattle.replay.specs.Examples.{put_and_ask, put_and_ask_script, put_and_ask_output}
 
 -- the script's bytes are those of its events and the line `end`
 pub put_and_ask_spelled : whole_bytes put_and_ask ++ ended (codes "end") ≡ put_and_ask_script

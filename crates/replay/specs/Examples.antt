@@ -1,13 +1,8 @@
 -- Two scripts for a site, what they do and what is written for them.
 use Rattle.std.specs.Prelude.{ℕ, List, [], ◌∷◌, codes}
-use Rattle.cta_site.specs.FirstSite.{first_site}
-use Rattle.cta_site.specs.declared.site.Site.{Site}
+use Rattle.cta_site.specs.Sites.{small_site}
 use Rattle.replay.specs.Message.{PutFile, AskInfo}
 use Rattle.replay.specs.Script.{Event, Feed}
-
--- the site of the one form with a buffer, a greatest file and a history of 1,000 each
-abbrev pub small_site : Site
-small_site = first_site 1000 1000 1000
 
 -- a PUT of the five bytes `hello`, and the question where that file is
 abbrev pub put_and_ask : List Event

@@ -1,7 +1,7 @@
 -- The lines of a script, by their one spelling.
 use Rattle.std.specs.Prelude.{ℕ, ◌<◌, ◌≤◌, List, [], length, slice_index_or, codes}
 use Rattle.std.specs.Fmt.{decimal}
-use Rattle.cta_site.specs.ValidSite.{drive_names}
+use Rattle.cta_site.specs.Names.{drive_names}
 use Rattle.cta_site.specs.declared.site.Site.{Site}
 use Rattle.cta_model.specs.Legal.{greatest_moment}
 use Rattle.replay.specs.Bytes.{then_byte}

@@ -5,7 +5,8 @@ use Rattle.std.specs.Fmt.{decimal}
 use Rattle.blob.specs.Sums.{sum_of}
 use Rattle.cta_site.specs.Listed.{rows}
 use Rattle.cta_site.specs.declared.site.Site.{Site}
-use Rattle.cta_model.specs.Answers.{served_answer, served_look}
+use Rattle.cta_model.specs.Answers.{served_answer}
+use Rattle.cta_model.specs.Looks.{served_look}
 use Rattle.cta_model.specs.Kept.{Kept, kept_after}
 use Rattle.cta_model.specs.declared.answers.Answer.{Answer}
 use Rattle.cta_model.specs.declared.asks.Ask.{Ask}

@@ -1,9 +1,14 @@
 -- What a reader of a site file took, and what came of it.
-use Rattle.std.specs.Prelude.{◌≡◌, ℕ, ◌+◌, ◌≤◌, ◌⊎◌, List, length, Option, Result, MatchResult}
+use Rattle.std.specs.Prelude.{◌≡◌, ℕ, ◌+◌, ◌≤◌, ◌⊎◌, List, length, Option, Some, None, Result, MatchResult}
+use Rattle.std.specs.Option.{option_or}
 use Rattle.std.specs.Io.KnownBytes.{Consumes, IsAtEnd}
 use Rattle.outside.specs.Causes.{Rose}
-use Rattle.cta_site.specs.FirstSite.{IsFirstSite}
+use Rattle.cta_site.specs.declared.check.SiteError.{SiteError}
+use Rattle.cta_site.specs.declared.check.SiteError.TheVariants as error
 use Rattle.cta_site.specs.declared.site.Site.{Site}
+use Rattle.cta_site.specs.Faults.{first_fault}
+use Rattle.cta_site.specs.Numbering.{IsNumberedFrom}
+use Rattle.site_json.specs.File.{file_fault, site_of}
 use Rattle.cta_model.specs.Kept.{Kept}
 use Rattle.replay.specs.Output.{fresh}
 use Rattle.replay.specs.declared.site.SiteEnd.{SiteEnd}
@@ -22,51 +27,61 @@ TookSite Long left left' faults faults' bytes = Consumes left left' bytes × (le
 TookSite Fault left left' faults faults' bytes = Rose faults faults'
 TookSite Memory left left' faults faults' bytes = Unit {0}
 
--- the bytes tell no site in the one form that is read so far
-abbrev pub TellsNoSite : List ℕ → Type 0
-TellsNoSite bytes = (site : Site) → ¬ (IsFirstSite bytes site)
+-- the first of the thirty rules that the bytes of a site file break, and the item that breaks it: the first of rules 1 to 7, which speak of the file, else the first of all others that the site breaks which it tells
+abbrev pub site_fault : List ℕ → Option (ℕ × ℕ)
+site_fault bytes = option_or (file_fault bytes) (first_fault (site_of bytes))
+
+-- the bytes break no rule, and the site is what they tell, its numbered lists in order
+pub record IsSiteOf (bytes : List ℕ) (site : Site) : Type 0 where
+  pub kept : site_fault bytes ≡ None
+  pub numbered : IsNumberedFrom (site_of bytes) site
 
 -- the archive has kept nothing yet, and its site is the one that the bytes tell
 abbrev pub IsArchiveOf : List ℕ → Kept → Type 0
-IsArchiveOf bytes archive = IsFirstSite bytes archive.site × (archive ≡ fresh archive.site)
+IsArchiveOf bytes archive = IsSiteOf bytes archive.site × (archive ≡ fresh archive.site)
 
--- why no archive was made of bytes: they tell no site, or memory was wanted
+-- a site that is refused gives the status of its rule, and want of memory its own
+abbrev pub IsStatusOf : SiteError → Status → Type 0
+IsStatusOf (error.Fault rule item) status = status ≡ SiteRule rule item
+IsStatusOf error.NoMemory status = status ≡ NoMemory
+
+-- why no archive was made of bytes: the first rule that they break, or memory was wanted
 abbrev pub NoArchive : Status → List ℕ → Type 0
-NoArchive (NotBuilt offset) bytes = (offset ≡ 0) × TellsNoSite bytes
+NoArchive (SiteRule rule item) bytes = site_fault bytes ≡ Some (rule, item)
 NoArchive NoMemory bytes = Unit {0}
 NoArchive Ok bytes = ⊥
 NoArchive Usage bytes = ⊥
-NoArchive (SiteRule rule item) bytes = ⊥
 NoArchive (Script offset) bytes = ⊥
 NoArchive ReadFault bytes = ⊥
 NoArchive WriteFault bytes = ⊥
 NoArchive TooLong bytes = ⊥
 NoArchive ListenFault bytes = ⊥
+NoArchive (NotBuilt offset) bytes = ⊥
 
 -- an archive was made of bytes, or not and why
 abbrev pub ArchiveMade : Result Kept Status → List ℕ → Type 0
 ArchiveMade r bytes = MatchResult r (IsArchiveOf bytes) (λ status. NoArchive status bytes)
 
--- the bytes of a site file that is not read: they are too many, or all that there are, and tell no site
-abbrev pub IsUnreadSite : List ℕ → Option (List ℕ) → Type 0
-IsUnreadSite bytes left' = (length bytes ≡ site_limit + 1) ⊎ (IsAtEnd left' × (length bytes ≤ site_limit) × TellsNoSite bytes)
+-- all bytes of a site file were taken, or one more than it may have
+abbrev pub IsTakenSite : List ℕ → Option (List ℕ) → Type 0
+IsTakenSite bytes left' = (length bytes ≡ site_limit + 1) ⊎ IsAtEnd left'
 
--- when each status comes for a site file; that of a broken rule comes once whole site files are read
+-- when each status comes for a site file
 abbrev pub NoSite : Status → Option (List ℕ) → Option (List ℕ) → ℕ → ℕ → Type 0
-NoSite (NotBuilt offset) left left' faults faults' = (offset ≡ 0) × ((bytes : List ℕ) × Consumes left left' bytes × IsUnreadSite bytes left')
+NoSite (SiteRule rule item) left left' faults faults' = (bytes : List ℕ) × Consumes left left' bytes × IsTakenSite bytes left' × (site_fault bytes ≡ Some (rule, item))
 NoSite ReadFault left left' faults faults' = Rose faults faults'
 NoSite NoMemory left left' faults faults' = Unit {0}
 NoSite Ok left left' faults faults' = ⊥
 NoSite Usage left left' faults faults' = ⊥
-NoSite (SiteRule rule item) left left' faults faults' = ⊥
 NoSite (Script offset) left left' faults faults' = ⊥
 NoSite WriteFault left left' faults faults' = ⊥
 NoSite TooLong left left' faults faults' = ⊥
 NoSite ListenFault left left' faults faults' = ⊥
+NoSite (NotBuilt offset) left left' faults faults' = ⊥
 
 -- the whole site file was read, and tells this site
 abbrev pub ReadsSite : Option (List ℕ) → Option (List ℕ) → Site → Type 0
-ReadsSite left left' site = (bytes : List ℕ) × Consumes left left' bytes × IsAtEnd left' × (length bytes ≤ site_limit) × IsFirstSite bytes site
+ReadsSite left left' site = (bytes : List ℕ) × Consumes left left' bytes × IsAtEnd left' × IsSiteOf bytes site
 
 -- an archive of the site that the file tells, or why there is none
 abbrev pub SiteRead : Result Kept Status → Option (List ℕ) → Option (List ℕ) → ℕ → ℕ → Type 0

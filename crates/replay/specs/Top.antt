@@ -1,12 +1,11 @@
 -- What a run of `cta replay` says.
-use Rattle.std.specs.Prelude.{◌≡◌, ℕ, ◌≤◌, ◌⊎◌, List, length, Option, Some}
+use Rattle.std.specs.Prelude.{◌≡◌, ℕ, ◌⊎◌, List, Option, Some}
 use Rattle.outside.specs.Causes.{Rose}
-use Rattle.cta_site.specs.FirstSite.{IsFirstSite}
 use Rattle.cta_site.specs.declared.site.Site.{Site}
 use Rattle.replay.specs.Words.{IsReplayForm}
 use Rattle.replay.specs.Script.{Event}
 use Rattle.replay.specs.Outcome.{Replays, ReachesEnd, IsReadWhole}
-use Rattle.replay.specs.SiteFile.{NoSite, ReadsSite, site_limit}
+use Rattle.replay.specs.SiteFile.{IsSiteOf, NoSite, ReadsSite}
 use Rattle.replay.specs.declared.status.Status.{Status}
 use Rattle.replay.specs.declared.status.Status.TheVariants.{Ok, Usage, NoMemory}
 
@@ -43,10 +42,10 @@ EndsInScript status a b = (site : Site) × ReadsSite a.site_left b.site_left sit
 abbrev pub Runs : Status → List (List ℕ) → Handed → Handed → Type 0
 Runs status words a b = EndsAtWords status words a b ⊎ (IsReplayForm words × (EndsAtSite status a b ⊎ EndsInScript status a b))
 
--- words of the form, a site file and a script of whole records up to `end`, with no fault, are run to the end with the whole output
+-- words of the form, a site file that keeps the rules, and a script of whole records up to `end`, with no fault, are run to the end with the whole output
 -- written, or memory is wanted
 abbrev pub RunsWhole : Status → List (List ℕ) → Handed → Handed → Type 0
 RunsWhole status words a b =
-    (bytes : List ℕ) (site : Site) (events : List Event) (rest : List ℕ) → IsReplayForm words → a.site_left ≡ Some bytes → length bytes ≤ site_limit → IsFirstSite bytes site → ReachesEnd site a.left events rest
+    (bytes : List ℕ) (site : Site) (events : List Event) (rest : List ℕ) → IsReplayForm words → a.site_left ≡ Some bytes → IsSiteOf bytes site → ReachesEnd site a.left events rest
     → ¬ (Rose a.site_faults b.site_faults) → ¬ (Rose a.read_faults b.read_faults) → ¬ (Rose a.write_faults b.write_faults)
     → ((status ≡ Ok) × IsReadWhole site events rest b.left a.written b.written) ⊎ (status ≡ NoMemory)

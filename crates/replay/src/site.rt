@@ -1,11 +1,13 @@
 // The site file, read whole.
-ghost use Rattle.std.specs.Prelude.{◌≡◌, []};
-ghost use Rattle.replay.specs.SiteFile.{ArchiveMade, SiteRead, TookSite};
+ghost use Rattle.std.specs.Prelude.{◌≡◌, [], MatchResult};
+ghost use Rattle.cta_site.specs.Faults.{IsCauseOf};
+ghost use Rattle.replay.specs.SiteFile.{ArchiveMade, IsSiteOf, IsStatusOf, SiteRead, TookSite, site_fault};
 
 use crate::status::Status;
 use archive::Archive;
-use cta_site::read_first_site;
+use cta_site::{SiteError, ValidSite};
 use outside::{Failed, Source};
+use site_json::read_site;
 use std::alloc::Global;
 
 // The most bytes of a site file.
@@ -48,17 +50,36 @@ fn take_site<A: Source>(site: &mut A, bytes: &mut Vec<u8>) -> SiteEnd
     SiteEnd::Long
 }
 
+// The status of a site file that is refused.
+fn refused(error: SiteError) -> Status
+    ensures { IsStatusOf error result }
+{
+    match error {
+        SiteError::Fault { rule, item } => Status::Site { rule, item },
+        SiteError::NoMemory => Status::NoMemory,
+    }
+}
+
+// The valid site that these bytes tell.
+fn site_of(alloc: Global, bytes: &[u8]) -> Result<ValidSite, SiteError>
+    ensures { MatchResult result (IsSiteOf bytes.now) (λ e. IsCauseOf e (site_fault bytes.now)) }
+{
+    match read_site(alloc, bytes) {
+        Ok(site) => site.check(alloc),
+        Err(error) => Err(error),
+    }
+}
+
 // An archive of the site that these bytes tell.
 fn archive_of(alloc: Global, bytes: &[u8]) -> Result<Archive, Status>
     ensures { ArchiveMade result bytes.now }
 {
-    match read_first_site(alloc, bytes) {
-        Ok(Some(site)) => match Archive::new(alloc, site) {
+    match site_of(alloc, bytes) {
+        Ok(site) => match Archive::new(alloc, site) {
             Ok(archive) => Ok(archive),
             Err(_) => Err(Status::NoMemory),
         },
-        Ok(None) => Err(Status::NotBuilt { offset: 0 }),
-        Err(_) => Err(Status::NoMemory),
+        Err(error) => Err(refused(error)),
     }
 }
 
@@ -69,7 +90,7 @@ pub fn read_archive<A: Source>(alloc: Global, site: &mut A) -> Result<Archive, S
     let mut bytes = Vec::new(alloc);
     match take_site(site, &mut bytes) {
         SiteEnd::Whole => archive_of(alloc, &bytes),
-        SiteEnd::Long => Err(Status::NotBuilt { offset: 0 }),
+        SiteEnd::Long => Err(Status::Site { rule: 1, item: 0 }),
         SiteEnd::Fault => Err(Status::ReadFault),
         SiteEnd::Memory => Err(Status::NoMemory),
     }

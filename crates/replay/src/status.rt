@@ -21,6 +21,6 @@ pub enum Status {
     TooLong,
     /// The address could not be listened on (9).
     ListenFault,
-    /// What is asked at this byte of the script is not built yet; 0 for the site file too (11).
+    /// What is asked at this byte of the script is not built yet (11).
     NotBuilt { offset: u64 },
 }

@@ -195,7 +195,7 @@ fn refusals(rt: HostRuntime) -> Result<(), Fail> {
             b"10,\"file\":11,\"history\":1000",
             &[],
             b"end\n",
-            Status::NotBuilt { offset: 0 },
+            Status::Site { rule: 5, item: 0 },
             &[]
         )?
     );

@@ -1,13 +1,31 @@
 // The run of the program.
-ghost use Rattle.std.specs.Prelude.{map, string_bytes};
+ghost use Rattle.std.specs.Prelude.{◌≡◌, map, string_bytes};
+ghost use Rattle.replay.specs.Outcome.{Replays};
+ghost use Rattle.replay.specs.Output.{fresh};
 ghost use Rattle.replay.specs.Top.{handed, Runs, RunsWhole};
 
 use crate::run::run_script;
 use crate::site::read_archive;
 use crate::status::Status;
 use crate::words::is_replay_form;
+use archive::Archive;
+use cta_site::one_numbering;
 use outside::{Sink, Source};
 use std::alloc::Global;
+
+// Runs a script for an archive that has kept nothing yet, and lets the archive go.
+fn run_archive<S: Source, K: Sink>(
+    alloc: Global,
+    mut archive: Archive,
+    script: &mut S,
+    out: &mut K,
+) -> Status
+    requires { archive ≡ fresh archive.site }
+    ensures { Replays result archive.site (S.left script.old) (S.left script.new) (S.faults script.old) (S.faults script.new)
+        (K.written out.old) (K.written out.new) (K.faults out.old) (K.faults out.new) }
+{
+    run_script(alloc, &mut archive, script, out)
+}
 
 // The run, with the clause that holds its outcome.
 fn replay_site<A: Source, S: Source, K: Sink>(
@@ -25,10 +43,7 @@ fn replay_site<A: Source, S: Source, K: Sink>(
         return Status::Usage;
     }
     match read_archive(alloc, site_bytes) {
-        Ok(archive) => {
-            let mut archive = archive;
-            run_script(alloc, &mut archive, script, out)
-        }
+        Ok(archive) => run_archive(alloc, archive, script, out),
         Err(status) => status,
     }
 }
@@ -46,9 +61,10 @@ fn replay_site<A: Source, S: Source, K: Sink>(
 /// record.
 /// - `Ok`: the script was read to its line `end`, what follows is left in the source, and all replies were written.
 /// - `Usage`: the words are of another form. Nothing was read or written.
-/// - `NotBuilt`: the site file is none of the one form that is read so far, with offset 0, the script untouched and
-///   nothing written; or at this offset, in bytes of the script from 0, begins the first whole record that is a `step`
-///   of a drive of the site, or whose bytes are neither message. All replies before it were written.
+/// - `Site`: the site file breaks this rule, of the thirty rules of a site file the first, and first at this item of its
+///   list (0 where the rule speaks of no element). The script is untouched and nothing was written.
+/// - `NotBuilt`: at this offset, in bytes of the script from 0, begins the first whole record that is a `step` of a drive
+///   of the site, or whose bytes are neither message. All replies before it were written.
 /// - `Script`: at this offset no record begins or goes on, or the script ended there, in a record or before `end`. A
 ///   record that is cut has fed what it held. All replies were written.
 /// - `ReadFault`: the count of faults of the site file's source rose in this call, the script is untouched and nothing
@@ -57,7 +73,7 @@ fn replay_site<A: Source, S: Source, K: Sink>(
 /// - `NoMemory`: memory was wanted. Whole replies were written, from the first on.
 /// - `TooLong`: 2^32 bytes of the script were taken without `end`. All replies were written.
 ///
-/// `Site` and `ListenFault` are not answered. It always returns. Its memory is that of the longest record and the
+/// `ListenFault` is not answered. It always returns. Its memory is that of the longest record and the
 /// archive; its time that of the archive's asks and looks beside the bytes.
 pub fn replay_top<A: Source, S: Source, K: Sink>(
     alloc: Global,
@@ -75,5 +91,6 @@ pub fn replay_top<A: Source, S: Source, K: Sink>(
         (handed (A.left site_bytes.old) (A.faults site_bytes.old) (S.left script.old) (S.faults script.old) (K.written out.old) (K.faults out.old))
         (handed (A.left site_bytes.new) (A.faults site_bytes.new) (S.left script.new) (S.faults script.new) (K.written out.new) (K.faults out.new)) }
 {
+    one_numbering();
     replay_site(alloc, words, site_bytes, script, out)
 }

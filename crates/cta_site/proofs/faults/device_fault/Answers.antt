@@ -6,7 +6,7 @@ use Rattle.cta_site.specs.declared.site.Directory.{Directory}
 use Rattle.cta_site.specs.Items.{first_failing, is_among}
 use Rattle.cta_site.specs.Paths.{is_path}
 use Rattle.cta_site.specs.References.{tape_has_home, directory_has_class}
-use Rattle.cta_site.specs.ValidSite.{class_names, pool_names}
+use Rattle.cta_site.specs.Names.{class_names, pool_names}
 use Rattle.cta_site.proofs.Moved.{moved}
 use Rattle.cta_site.proofs.faults.device_fault.Goals as goal
 

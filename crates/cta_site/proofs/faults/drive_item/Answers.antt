@@ -3,7 +3,7 @@ use Rattle.cta_site.specs.declared.site.Drive.{Drive}
 use Rattle.cta_site.specs.declared.site.Failure.{Failure}
 use Rattle.cta_site.specs.Items.{first_failing, is_among}
 use Rattle.cta_site.specs.References.{drive_has_library, failure_has_drive}
-use Rattle.cta_site.specs.ValidSite.{drive_names}
+use Rattle.cta_site.specs.Names.{drive_names}
 use Rattle.cta_site.proofs.Moved.{moved}
 use Rattle.cta_site.proofs.faults.drive_item.Goals as goal
 

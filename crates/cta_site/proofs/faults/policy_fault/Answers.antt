@@ -3,7 +3,7 @@ use Rattle.cta_site.specs.declared.site.Policy.{Policy}
 use Rattle.cta_site.specs.declared.site.Rule.{Rule}
 use Rattle.cta_site.specs.Items.{first_failing, is_among}
 use Rattle.cta_site.specs.References.{rule_has_policy}
-use Rattle.cta_site.specs.ValidSite.{policy_names}
+use Rattle.cta_site.specs.Names.{policy_names}
 use Rattle.cta_site.proofs.Moved.{moved}
 use Rattle.cta_site.proofs.faults.policy_fault.Goals as goal
 

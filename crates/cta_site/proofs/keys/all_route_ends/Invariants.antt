@@ -1,5 +1,5 @@
 use Rattle.std.proofs.Common.{◌≡◌, map, take}
-use Rattle.cta_site.specs.References.{route_ends}
+use Rattle.cta_site.specs.Keys.{route_ends}
 use Rattle.cta_site.proofs.keys.all_route_ends.Given as goal
 
 abbrev pub invariant-loop-route : goal.invariant-loop-route

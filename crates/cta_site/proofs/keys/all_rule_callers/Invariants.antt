@@ -1,5 +1,5 @@
 use Rattle.std.proofs.Common.{◌≡◌, map, take}
-use Rattle.cta_site.specs.References.{rule_caller}
+use Rattle.cta_site.specs.Keys.{rule_caller}
 use Rattle.cta_site.proofs.keys.all_rule_callers.Given as goal
 
 abbrev pub invariant-loop-rule : goal.invariant-loop-rule

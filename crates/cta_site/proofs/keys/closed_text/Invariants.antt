@@ -1,5 +1,5 @@
 use Rattle.std.proofs.Common.{◌≡◌, ◌++◌, drop}
-use Rattle.cta_site.specs.References.{closed_text}
+use Rattle.cta_site.specs.Keys.{closed_text}
 use Rattle.cta_site.proofs.keys.closed_text.Given as goal
 
 abbrev pub invariant-loop-byte : goal.invariant-loop-byte

@@ -1,18 +1,20 @@
-use Rattle.std.proofs.Common.{◌≡◌, ◌<◌, length, sym, ap, ◌∙◌, arith, true, false}
-use Rattle.cta_site.specs.Lookups.{is_under}
-use Rattle.cta_site.specs.Scans.{longer_so_far}
-use Rattle.cta_site.proofs.Longest.{longest_more, longest_same}
+use Rattle.std.proofs.Common.{◌≡◌, ◌∙◌, ◌+◌, ◌-◌, ◌<◌, Some, sym, subst, length, take, arith}
+use Rattle.cta_site.specs.declared.site.Directory.{Directory}
+use Rattle.cta_site.specs.Lookups.{place_by}
+use Rattle.cta_site.proofs.Fronts.{NoneFrom, longest_at, longest_none}
 use Rattle.cta_site.proofs.lookups.directory_of.Goals as goal
-use Rattle.cta_site.proofs.lookups.directory_of.Goals.{then-is_under, else-is_under}
 
-pub loop-directory-preserved : goal.loop-directory-preserved
-loop-directory-preserved c =
-    let low : c.loop-directory.directory-index < length c.args.directories.now = omega arith in
-    elim c.if-is_under.branch [
-      | then-is_under w ↦
-          let hit : is_under c.directory-item.result.path c.args.path.now ≡ true = rw c.as_bytes.ensures at (sym w.if-is_under.ensures) in
-          rw w.best-is (w.longer-best.ensures ∙ (ap (λ o. longer_so_far o c.directory-item.result) c.loop-directory.invariant ∙ sym (longest_more c.args.path.now c.args.directories.now c.loop-directory.directory-index c.directory-item.result low c.directory-item.is hit)))
-      | else-is_under w ↦
-          let miss : is_under c.directory-item.result.path c.args.path.now ≡ false = rw c.as_bytes.ensures at (sym w.if-is_under.ensures) in
-          rw w.best-is (c.loop-directory.invariant ∙ sym (longest_same c.args.path.now c.args.directories.now c.loop-directory.directory-index c.directory-item.result low c.directory-item.is miss))
-    ]
+pub returns-in-Some : goal.returns-in-Some
+returns-in-Some c =
+    let at = c.loop-end.end - 1 in
+    let low : at < length c.args.path.now = omega arith in
+    let next : c.loop-end.end ≡ at + 1 = omega arith in
+    let none : NoneFrom c.args.directories.now c.args.path.now (at + 1) = subst (NoneFrom c.args.directories.now c.args.path.now) next c.loop-end.invariant in
+    let place : place_by (λ (d : Directory). d.path) c.args.directories.now (take at c.args.path.now) ≡ Some c.in-Some.place = sym (c.requires (take at c.args.path.now)) ∙ sym c.in-Some.ensures in
+    c.item_at.ensures ∙ longest_at c.args.path.now at c.args.directories.now c.in-Some.place low c.if-path-end-eq47.true none place
+
+pub returns : goal.returns
+returns c =
+    let done : c.loop-end.end ≡ 0 = omega arith in
+    let none : NoneFrom c.args.directories.now c.args.path.now 0 = subst (NoneFrom c.args.directories.now c.args.path.now) done c.loop-end.invariant in
+    sym (longest_none c.args.path.now c.args.directories.now none)

@@ -1,6 +1,0 @@
-use Rattle.std.proofs.Common.{take}
-use Rattle.archive.specs.Parts.{Without}
-use Rattle.archive.proofs.paths.cut_at_slash.Given as goal
-
-abbrev pub invariant-loop-place : goal.invariant-loop-place
-invariant-loop-place l = Without 47 (take l.place l.bytes)

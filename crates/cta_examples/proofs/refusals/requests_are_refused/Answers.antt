@@ -1,0 +1,8 @@
+use Rattle.std.specs.Prelude.{refl, []}
+use Rattle.cta_examples.specs.Refusals.{staged}
+use Rattle.cta_model.specs.Examples.{one_copy_site}
+use Rattle.cta_model.proofs.Runs.{replay_is_legal}
+use Rattle.cta_examples.proofs.refusals.requests_are_refused.Goals as goal
+
+pub returns-clause-legal : goal.returns-clause-legal
+returns-clause-legal c = replay_is_legal one_copy_site [] staged tt refl refl

@@ -1,0 +1,9 @@
+pub mod Sites
+pub mod Asks
+pub mod Writing
+pub mod Recalling
+pub mod Requests
+pub mod Failures
+pub mod Choices
+pub mod Tapes
+pub mod Refusals

@@ -1,0 +1,7 @@
+use Rattle.std.specs.Prelude.{refl, []}
+use Rattle.cta_model.specs.Examples.{one_copy_site, one_returned}
+use Rattle.cta_model.proofs.Runs.{replay_is_legal}
+use Rattle.cta_model.proofs.examples.returned_jobs_keep_their_place.Goals as goal
+
+pub returns-clause-legal : goal.returns-clause-legal
+returns-clause-legal c = replay_is_legal one_copy_site [] one_returned tt refl refl

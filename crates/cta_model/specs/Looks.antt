@@ -1,0 +1,62 @@
+-- The sequential archive: what each look is answered. A look changes nothing.
+use Rattle.std.specs.Prelude.{ℕ, length, List, Option, Some, None, Bool, true, false, not, nat_le}
+use Rattle.cta_site.specs.declared.site.Site.{Site}
+use Rattle.cta_site.specs.Listed.{rows}
+use Rattle.cta_model.specs.declared.entries.Entry.{Entry}
+use Rattle.cta_model.specs.declared.asks.Ask.{Ask}
+use Rattle.cta_model.specs.declared.asks.Ask.TheVariants as ask
+use Rattle.cta_model.specs.declared.asks.Look.{Look}
+use Rattle.cta_model.specs.declared.asks.Look.TheVariants as look
+use Rattle.cta_model.specs.declared.asks.Wanted.{Wanted}
+use Rattle.cta_model.specs.declared.answers.Answer.{Answer}
+use Rattle.cta_model.specs.declared.answers.Answer.TheVariants as answer
+use Rattle.cta_model.specs.declared.answers.Refusal.TheVariants as refusal
+use Rattle.cta_model.specs.History.{History, entry_of}
+use Rattle.cta_model.specs.Files.{live_file, sum_of}
+use Rattle.cta_model.specs.Buffer.{is_resident}
+use Rattle.cta_model.specs.Stages.{request_of}
+use Rattle.cta_model.specs.Answers.{refuse}
+use Rattle.cta_model.specs.Reports.{place_infos, stage_report, repack_report, failed_copies, tape_report, queue_reports}
+
+-- a Fetch is told the length and SHA-256 of its file where the file is resident, and is refused otherwise
+abbrev pub fetch_by : History → Option ℕ → Answer
+fetch_by h None = answer.Refused refusal.NoFile
+fetch_by h (Some f) = refuse refusal.NotResident (not (is_resident h f)) (answer.Bytes (sum_of h f))
+
+-- a StageInfo is told how its request stands, and is refused where there is none
+abbrev pub stage_info_by : Site → History → ℕ → Option (List Wanted) → Answer
+stage_info_by site h id None = answer.Refused refusal.NoRequest
+stage_info_by site h id (Some wanted) = answer.Stage (stage_report site h id wanted)
+
+-- what is told of the repack that an ask and its answer make; only a Repack makes one
+abbrev pub repack_info_in : Site → History → ℕ → Ask → Answer → Answer
+repack_info_in site h id (ask.Repack who v) (answer.Repacking n items) = answer.RepackSeen (repack_report site h id v items.items)
+repack_info_in site h id _ _ = answer.Refused refusal.NoRepack
+
+-- a RepackInfo is told how its repack stands, and is refused where there is no entry or it makes no repack
+abbrev pub repack_info_by : Site → History → ℕ → Option Entry → Answer
+repack_info_by site h id None = answer.Refused refusal.NoRepack
+repack_info_by site h id (Some e) = repack_info_in site h id e.ask e.answer
+
+-- a TapeInfo is refused where the site has no such tape
+abbrev pub tape_info_answer : Site → History → ℕ → Answer
+tape_info_answer site h v = refuse refusal.NoTape (nat_le (length site.tapes.items) v) (answer.TapeSeen (tape_report site h v))
+
+-- the answer to a look that is given this moment, on this history; no look's answer depends on the moment
+abbrev pub look_answer_of : Site → History → ℕ → Look → Answer
+look_answer_of site h t (look.Fetch path) = fetch_by h (live_file h path)
+look_answer_of site h t (look.StageInfo id) = stage_info_by site h id (request_of h id)
+look_answer_of site h t (look.ArchiveInfo paths) = answer.Places (rows (place_infos site h paths.items))
+look_answer_of site h t (look.RepackInfo id) = repack_info_by site h id (entry_of h id)
+look_answer_of site h t look.FailedList = answer.FailedSeen (rows (failed_copies site h))
+look_answer_of site h t (look.TapeInfo v) = tape_info_answer site h v
+look_answer_of site h t look.Queues = answer.QueuesSeen (rows (queue_reports site h))
+
+-- the looks that are served
+abbrev pub is_built_look : Look → Bool
+is_built_look (look.ArchiveInfo paths) = true
+is_built_look _ = false
+
+-- what is served: the answer of the sequential archive where the look is built, and otherwise the refusal NotBuilt, before every other
+abbrev pub served_look : Site → History → ℕ → Look → Answer
+served_look site h t k = refuse refusal.NotBuilt (not (is_built_look k)) (look_answer_of site h t k)

@@ -1,0 +1,5 @@
+pub mod Members
+pub mod Words
+pub mod Elements
+pub mod File
+pub mod Tested

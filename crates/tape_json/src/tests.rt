@@ -1,0 +1,511 @@
+// Bodies and reports, with ample memory.
+ghost use Rattle.std.specs.Prelude.{IsSome};
+ghost use Rattle.tape_json.specs.Reports.{report_of};
+
+use crate::{BodyError, read_paths, read_stage, read_state, read_vid, write_answer};
+use cta_model::{
+    Answer, Direction, FailedCopy, FileState, ItemState, Job, Locality, PlaceInfo, QueueInfo,
+    Refusal, RepackInfo, RepackItem, StageFileInfo, StageInfo, TapeInfo,
+};
+use cta_site::{Rows, TapeState, Text, ValidSite};
+use site_json::read_site;
+use std::alloc::{AllocError, Global};
+use std::test::Fail;
+
+fn word_of(error: BodyError) -> &'static str {
+    match error {
+        BodyError::BadBody => "bad body",
+        BodyError::BadLifetime => "bad lifetime",
+        BodyError::EmptyList => "empty list",
+        BodyError::NoMemory => "no memory",
+    }
+}
+
+// What a stage body is read as: the path and the lifetime of its last file, or its fault.
+fn last_wanted(alloc: Global, body: &str) -> (&'static str, usize, Option<u64>) {
+    match read_stage(alloc, body.as_bytes()) {
+        Ok(files) => match files.as_slice().last() {
+            Some(file) => ("ok", file.path.as_str().len(), file.lifetime),
+            None => ("none", 0, None),
+        },
+        Err(error) => (word_of(error), 0, None),
+    }
+}
+
+// How many paths a body has, or its fault.
+fn paths_word(alloc: Global, body: &[u8]) -> (&'static str, usize) {
+    match read_paths(alloc, body) {
+        Ok(paths) => ("ok", paths.len()),
+        Err(error) => (word_of(error), 0),
+    }
+}
+
+fn state_word(alloc: Global, body: &str) -> (&'static str, Option<TapeState>) {
+    match read_state(alloc, body.as_bytes()) {
+        Ok(state) => ("ok", Some(state)),
+        Err(error) => (word_of(error), None),
+    }
+}
+
+fn vid_word(alloc: Global, body: &str) -> (&'static str, usize) {
+    match read_vid(alloc, body.as_bytes()) {
+        Ok(vid) => ("ok", vid.as_str().len()),
+        Err(error) => (word_of(error), 0),
+    }
+}
+
+// Stage bodies, each with its value or its first fault.
+const STAGE_BODIES: [(&str, (&str, usize, Option<u64>)); 16] = [
+    (r#"{"files":[{"path":"/a"}]}"#, ("ok", 2, None)),
+    (
+        r#"{"files":[{"path":"/a","diskLifetime":null}]}"#,
+        ("ok", 2, None),
+    ),
+    (
+        r#"{"files":[{"path":"/a","path":"/bc","more":1}],"x":[]}"#,
+        ("ok", 3, None),
+    ),
+    (
+        r#"{"files":[{"path":"/a"},{"path":"","diskLifetime":"PT1S"}]}"#,
+        ("ok", 0, Some(1)),
+    ),
+    (
+        r#"{"files":[{"path":"/a","targetedMetadata":7}]}"#,
+        ("ok", 2, None),
+    ),
+    (
+        r#"{"files":[{"path":"/a","diskLifetime":3600}]}"#,
+        ("bad lifetime", 0, None),
+    ),
+    (
+        r#"{"files":[{"path":"/a","diskLifetime":"x"}]}"#,
+        ("bad lifetime", 0, None),
+    ),
+    (
+        r#"{"files":[{"path":"/a","diskLifetime":"x"},{"path":1}]}"#,
+        ("bad body", 0, None),
+    ),
+    (r#"{"files":[]}"#, ("empty list", 0, None)),
+    (r#"{"files":{}}"#, ("bad body", 0, None)),
+    (r#"{"files":null}"#, ("bad body", 0, None)),
+    (r#"{"files":["/a"]}"#, ("bad body", 0, None)),
+    (r#"{"paths":["/a"]}"#, ("bad body", 0, None)),
+    (r#"[{"path":"/a"}]"#, ("bad body", 0, None)),
+    (r#"{"files":[{"path":"/a"}]"#, ("bad body", 0, None)),
+    ("", ("bad body", 0, None)),
+];
+
+// The first of these bodies that is read otherwise.
+fn wrong_stage_body(alloc: Global) -> Option<&'static str> {
+    for (body, wanted) in STAGE_BODIES {
+        if last_wanted(alloc, body) != wanted {
+            return Some(body);
+        }
+    }
+    None
+}
+
+// The seconds of lifetimes (ISO 8601), None where they are bad.
+const LIFETIMES: [(&str, Option<u64>); 26] = [
+    ("P0Y", Some(0)),
+    ("P0M", Some(0)),
+    ("PT0S", Some(0)),
+    ("-PT0S", Some(0)),
+    ("-PT1S", None),
+    ("-PT0.5S", None),
+    ("P1Y", None),
+    ("P1M", None),
+    ("PT1M", Some(60)),
+    ("PT0.5H", Some(1800)),
+    ("PT0.5S", Some(0)),
+    ("PT1.9S", Some(1)),
+    ("PT24H", Some(86_400)),
+    ("P1D", Some(86_400)),
+    ("P1W", Some(604_800)),
+    ("P1W2DT3H4M5S", Some(788_645)),
+    ("+PT1S", Some(1)),
+    ("pt1h", Some(3600)),
+    ("PT631107417600S", Some(631_107_417_600)),
+    ("PT631107417601S", Some(631_107_417_600)),
+    ("1 hour", None),
+    ("24h", None),
+    ("", None),
+    ("P", None),
+    ("PT", None),
+    ("PT1S ", None),
+];
+
+// What a lifetime is read as.
+fn lifetime_of(alloc: Global, text: &str) -> Result<(&'static str, Option<u64>), AllocError> {
+    let body = format!(in alloc;
+        "{{\"files\":[{{\"path\":\"/a\",\"diskLifetime\":\"{text}\"}}]}}"
+    )?;
+    let (word, _, lifetime) = last_wanted(alloc, body.as_str());
+    Ok((word, lifetime))
+}
+
+// The first of these lifetimes that is read otherwise.
+fn wrong_lifetime(alloc: Global) -> Result<Option<&'static str>, AllocError> {
+    for (text, wanted) in LIFETIMES {
+        let word = if wanted.is_some() {
+            "ok"
+        } else {
+            "bad lifetime"
+        };
+        if lifetime_of(alloc, text)? != (word, wanted) {
+            return Ok(Some(text));
+        }
+    }
+    Ok(None)
+}
+
+// A stage body of 1,000 files from f0000 to f0999.
+fn thousand_files(alloc: Global) -> Result<String, AllocError> {
+    let mut body = String::from_str(alloc, "{\"files\":[")?;
+    for k in 0..1000u32 {
+        if k > 0 {
+            body.push_str(",")?;
+        }
+        let path = format!(in alloc; "{{\"path\":\"/atlas/run/f{k:04}\",")?;
+        body.push_str(path.as_str())?;
+        body.push_str(
+            r#""diskLifetime":"PT24H","targetedMetadata":{"atlas":{"activity":"rebalancing"}}}"#,
+        )?;
+    }
+    body.push_str("]}")?;
+    Ok(body)
+}
+
+// How many of these files have the lifetime of a day and the path of their place.
+fn days_in_order(alloc: Global, body: &str) -> Result<usize, Fail> {
+    let Ok(files) = read_stage(alloc, body.as_bytes()) else {
+        return Ok(0);
+    };
+    let mut found = 0usize;
+    for (k, file) in files.as_slice().iter().enumerate() {
+        let path = format!(in alloc; "/atlas/run/f{k:04}")?;
+        if file.path.is(path.as_str().as_bytes()) && file.lifetime == Some(86_400) {
+            found = found.saturating_add(1);
+        }
+    }
+    Ok(found)
+}
+
+// A body with a VID that nests so deep.
+fn nested(alloc: Global, depth: usize) -> Result<String, AllocError> {
+    let mut body = String::from_str(alloc, "{\"vid\":\"V1\",\"x\":")?;
+    for _ in 1..depth {
+        body.push_str("[")?;
+    }
+    for _ in 1..depth {
+        body.push_str("]")?;
+    }
+    body.push_str("}")?;
+    Ok(body)
+}
+
+const PATHS: [(&[u8], (&str, usize)); 7] = [
+    (br#"{"paths":["/a","/a","/b"]}"#, ("ok", 3)),
+    (br#" { "paths" : [ "" ] , "x" : 1 } "#, ("ok", 1)),
+    (br#"{"paths":[]}"#, ("empty list", 0)),
+    (br#"{"paths":["/a",1]}"#, ("bad body", 0)),
+    (br#"{"paths":"/a"}"#, ("bad body", 0)),
+    (br#"{"files":[]}"#, ("bad body", 0)),
+    (b"{\"paths\":[\"\xff\"]}", ("bad body", 0)),
+];
+
+// The first of these bodies of paths that is read otherwise.
+fn wrong_paths(alloc: Global) -> Option<&'static [u8]> {
+    for (body, wanted) in PATHS {
+        if paths_word(alloc, body) != wanted {
+            return Some(body);
+        }
+    }
+    None
+}
+
+const STATES: [(&str, Option<TapeState>); 6] = [
+    (r#"{"state":"ACTIVE"}"#, Some(TapeState::Active)),
+    (r#"{"state":"DISABLED"}"#, Some(TapeState::Disabled)),
+    (r#"{"state":"BROKEN"}"#, Some(TapeState::Broken)),
+    (r#"{"state":"REPACKING"}"#, Some(TapeState::Repacking)),
+    (r#"{"state":"active"}"#, None),
+    (r#"{"state":null}"#, None),
+];
+
+// The first of these bodies of a state that is read otherwise.
+fn wrong_state(alloc: Global) -> Option<&'static str> {
+    for (body, wanted) in STATES {
+        if state_word(alloc, body).1 != wanted {
+            return Some(body);
+        }
+    }
+    None
+}
+
+const SITE: &str =
+    r#"{"classes":[{"copies":1,"name":"raw","vo":"atlas"}],"defaultPolicy":"std","directories":[{"class":"raw","path":"/atlas"}],"drives":[{"library":"L1","name":"d1"}],"endpoint":"https://tape.example.org/api/v1","libraries":["L1"],"limits":{"archiveBytes":100,"archiveFiles":1,"batchFiles":10,"buffer":1000,"file":1000,"history":1000,"lifetime":60,"retrieveBytes":100,"retrieveFiles":1,"tries":3},"policies":[{"archiveMinAge":10,"archivePriority":1,"name":"std","retrieveMinAge":10,"retrievePriority":1}],"pools":[{"name":"p1","vo":"atlas"}],"repackPolicy":"std","routes":[{"class":"raw","copy":1,"pool":"p1"}],"sitename":"T1","tapes":[{"capacity":1000,"library":"L1","pool":"p1","state":"ACTIVE","vid":"V1"}],"version":1,"vos":[{"name":"atlas","readDrives":1,"writeDrives":1}]}"#;
+
+fn text(alloc: Global, characters: &str) -> Result<Text, AllocError> {
+    Ok(Text::of(String::from_str(alloc, characters)?))
+}
+
+fn let_go(_answer: Answer) {}
+
+// Whether the text of an answer is this one.
+fn is_written(alloc: Global, site: &ValidSite, answer: Answer, wanted: &str) -> bool
+    requires { IsSome (report_of answer) }
+{
+    let same = match write_answer(alloc, site, &answer) {
+        Ok(text) => text.as_str() == wanted,
+        Err(_) => false,
+    };
+    let_go(answer);
+    same
+}
+
+fn site_of(alloc: Global) -> Option<ValidSite> {
+    let site = read_site(alloc, SITE.as_bytes()).ok()?;
+    site.check(alloc).ok()
+}
+
+const JOB: Job = Job {
+    birth: 0,
+    file: 3,
+    copy: 1,
+};
+
+fn staged(alloc: Global, site: &ValidSite) -> bool {
+    let wanted = r#"{"requestId":"00000000-0000-8000-8000-000000000007"}"#;
+    is_written(alloc, site, Answer::Staged { id: 7 }, wanted)
+}
+
+fn refused(alloc: Global, site: &ValidSite) -> bool {
+    let wanted = r#"{"error":"path not in request"}"#;
+    is_written(alloc, site, Answer::Refused(Refusal::ForeignPath), wanted)
+}
+
+fn repacking(alloc: Global, site: &ValidSite) -> Result<bool, AllocError> {
+    let items = Rows::of(vec![in alloc; JOB]?);
+    let wanted = r#"{"repackId":"00000000-0000-8000-8000-0000ffffffff"}"#;
+    let id = 4_294_967_295;
+    Ok(is_written(alloc, site, Answer::Repacking { id, items }, wanted))
+}
+
+fn retried(alloc: Global, site: &ValidSite) -> Result<bool, AllocError> {
+    let jobs = Rows::of(vec![in alloc; JOB, JOB]?);
+    Ok(is_written(alloc, site, Answer::Retried { jobs }, r#"{"retried":2}"#))
+}
+
+fn waiting(alloc: Global) -> Result<StageFileInfo, AllocError> {
+    Ok(StageFileInfo {
+        path: text(alloc, "/a\"\\\n\u{1f}é")?,
+        state: FileState::Submitted,
+        on_disk: false,
+        started_at: None,
+        finished_at: None,
+        error: None,
+    })
+}
+
+fn ended(alloc: Global) -> Result<StageFileInfo, AllocError> {
+    let path = text(alloc, "/b")?;
+    let error = text(alloc, "no such file")?;
+    Ok(StageFileInfo {
+        path,
+        state: FileState::Failed,
+        on_disk: true,
+        started_at: Some(5),
+        finished_at: Some(9),
+        error: Some(error),
+    })
+}
+
+fn stage_files(alloc: Global) -> Result<Rows<StageFileInfo>, AllocError> {
+    let first = waiting(alloc)?;
+    let second = ended(alloc)?;
+    Ok(Rows::of(vec![in alloc; first, second]?))
+}
+
+fn stage(alloc: Global, site: &ValidSite) -> Result<bool, AllocError> {
+    let info = StageInfo {
+        id: 1,
+        created_at: 4,
+        started_at: Some(5),
+        completed_at: None,
+        files: stage_files(alloc)?,
+    };
+    let wanted =
+        r#"{"createdAt":4,"files":[{"onDisk":false,"path":"/a\"\\\n\u001fé","state":"SUBMITTED"},{"error":"no such file","finishedAt":9,"onDisk":true,"path":"/b","startedAt":5,"state":"FAILED"}],"id":"00000000-0000-8000-8000-000000000001","startedAt":5}"#;
+    Ok(is_written(alloc, site, Answer::Stage(info), wanted))
+}
+
+fn empty_stage(alloc: Global, site: &ValidSite) -> bool {
+    let info = StageInfo {
+        id: 0,
+        created_at: 0,
+        started_at: None,
+        completed_at: Some(18_446_744_073_709_551_615),
+        files: Rows::of(Vec::new(alloc)),
+    };
+    let wanted =
+        r#"{"completedAt":18446744073709551615,"createdAt":0,"files":[],"id":"00000000-0000-8000-8000-000000000000"}"#;
+    is_written(alloc, site, Answer::Stage(info), wanted)
+}
+
+fn there(alloc: Global) -> Result<PlaceInfo, AllocError> {
+    Ok(PlaceInfo {
+        path: text(alloc, "/a")?,
+        locality: Some(Locality::DiskAndTape),
+        error: None,
+    })
+}
+
+fn absent(alloc: Global) -> Result<PlaceInfo, AllocError> {
+    let path = text(alloc, "/b")?;
+    let error = text(alloc, "no such file")?;
+    Ok(PlaceInfo {
+        path,
+        locality: None,
+        error: Some(error),
+    })
+}
+
+fn places(alloc: Global, site: &ValidSite) -> Result<bool, AllocError> {
+    let first = there(alloc)?;
+    let second = absent(alloc)?;
+    let places = Rows::of(vec![in alloc; first, second]?);
+    let wanted =
+        r#"[{"locality":"DISK_AND_TAPE","path":"/a"},{"error":"no such file","path":"/b"}]"#;
+    Ok(is_written(alloc, site, Answer::Places(places), wanted))
+}
+
+fn repack_items(alloc: Global) -> Result<Rows<RepackItem>, AllocError> {
+    let item = RepackItem {
+        path: text(alloc, "/a")?,
+        copy: 2,
+        state: ItemState::Writing,
+    };
+    Ok(Rows::of(vec![in alloc; item]?))
+}
+
+fn repack(alloc: Global, site: &ValidSite) -> Result<bool, AllocError> {
+    let items = repack_items(alloc)?;
+    let vid = text(alloc, "V1")?;
+    let wanted =
+        r#"{"id":"00000000-0000-8000-8000-000000000010","items":[{"copy":2,"path":"/a","state":"WRITING"}],"vid":"V1"}"#;
+    let info = RepackInfo { id: 16, vid, items };
+    Ok(is_written(alloc, site, Answer::RepackSeen(info), wanted))
+}
+
+fn errors(alloc: Global) -> Result<Rows<Text>, AllocError> {
+    let first = text(alloc, "write fault on d1 V1")?;
+    let second = text(alloc, "flush fault on d1 V1")?;
+    Ok(Rows::of(vec![in alloc; first, second]?))
+}
+
+fn failed_copies(alloc: Global) -> Result<Rows<FailedCopy>, AllocError> {
+    let errors = errors(alloc)?;
+    let path = text(alloc, "/a")?;
+    let copy = FailedCopy {
+        path,
+        copy: 1,
+        errors,
+    };
+    Ok(Rows::of(vec![in alloc; copy]?))
+}
+
+fn failed(alloc: Global, site: &ValidSite) -> Result<bool, AllocError> {
+    let copies = failed_copies(alloc)?;
+    let wanted =
+        r#"[{"copy":1,"errors":["write fault on d1 V1","flush fault on d1 V1"],"path":"/a"}]"#;
+    Ok(is_written(alloc, site, Answer::FailedSeen(copies), wanted))
+}
+
+fn tape(alloc: Global, site: &ValidSite) -> Result<bool, AllocError> {
+    let info = TapeInfo {
+        vid: text(alloc, "V1")?,
+        state: TapeState::Repacking,
+        used: 12,
+        files: 3,
+        next_fseq: 5,
+    };
+    let wanted = r#"{"files":3,"nextFseq":5,"state":"REPACKING","used":12,"vid":"V1"}"#;
+    Ok(is_written(alloc, site, Answer::TapeSeen(info), wanted))
+}
+
+fn queue(
+    alloc: Global,
+    direction: Direction,
+    key: &str,
+    bytes: u64,
+) -> Result<QueueInfo, AllocError> {
+    Ok(QueueInfo {
+        direction,
+        key: text(alloc, key)?,
+        files: 2,
+        bytes,
+        oldest: 4,
+    })
+}
+
+fn queues(alloc: Global, site: &ValidSite) -> Result<bool, AllocError> {
+    let first = queue(alloc, Direction::Archive, "p1", 30)?;
+    let second = queue(alloc, Direction::Retrieve, "V1", 0)?;
+    let queues = Rows::of(vec![in alloc; first, second]?);
+    let wanted =
+        r#"[{"bytes":30,"direction":"archive","files":2,"key":"p1","oldest":4},{"bytes":0,"direction":"retrieve","files":2,"key":"V1","oldest":4}]"#;
+    Ok(is_written(alloc, site, Answer::QueuesSeen(queues), wanted))
+}
+
+fn small_reports(alloc: Global, site: &ValidSite) -> Result<bool, AllocError> {
+    let ids = staged(alloc, site) && repacking(alloc, site)?;
+    let others = refused(alloc, site) && retried(alloc, site)?;
+    Ok(ids && others)
+}
+
+fn reports_of_paths(alloc: Global, site: &ValidSite) -> Result<bool, AllocError> {
+    let stages = empty_stage(alloc, site) && stage(alloc, site)?;
+    let files = places(alloc, site)? && failed(alloc, site)?;
+    Ok(stages && files)
+}
+
+fn reports_of_tapes(alloc: Global, site: &ValidSite) -> Result<bool, AllocError> {
+    Ok(tape(alloc, site)? && repack(alloc, site)? && queues(alloc, site)?)
+}
+
+#[test]
+fn bodies(rt: HostRuntime) {
+    let alloc = rt.alloc();
+    assert_eq!(rt; wrong_stage_body(alloc), None);
+    assert_eq!(rt; wrong_lifetime(alloc), Ok(None));
+    assert_eq!(rt; wrong_paths(alloc), None);
+    assert_eq!(rt; wrong_state(alloc), None);
+    assert_eq!(rt; vid_word(alloc, r#"{"vid":"V00001"}"#), ("ok", 6));
+    assert_eq!(rt; vid_word(alloc, r#"{"vid":1}"#), ("bad body", 0));
+}
+
+#[test]
+fn large_and_deep_bodies(rt: HostRuntime) -> Result<(), Fail> {
+    let alloc = rt.alloc();
+    let body = thousand_files(alloc)?;
+    assert_eq!(rt; body.len(), 107_011);
+    assert_eq!(rt; days_in_order(alloc, body.as_str())?, 1000);
+    let allowed = nested(alloc, 127)?;
+    assert_eq!(rt; vid_word(alloc, allowed.as_str()), ("ok", 2));
+    let deep = nested(alloc, 128)?;
+    assert_eq!(rt; vid_word(alloc, deep.as_str()), ("bad body", 0));
+    Ok(())
+}
+
+// The text of each form of a report.
+#[test]
+fn reports(rt: HostRuntime) {
+    let alloc = rt.alloc();
+    let Some(site) = site_of(alloc) else {
+        panic!(rt; "no site");
+    };
+    assert_eq!(rt; small_reports(alloc, &site), Ok(true));
+    assert_eq!(rt; reports_of_paths(alloc, &site), Ok(true));
+    assert_eq!(rt; reports_of_tapes(alloc, &site), Ok(true));
+}
