@@ -1,0 +1,4 @@
+pub mod Elements
+pub mod Runs
+pub mod Standing
+pub mod RunLaws

@@ -1,0 +1,4 @@
+pub mod Standing
+pub mod Run
+pub mod Replies
+pub mod Laws

@@ -1,0 +1,37 @@
+// What the definitions of a run say.
+ghost use Rattle.links.specs.Laws.{HasFreeOrder, HasFreePieces, HasOneOutput, HasOneRun, IsEachAlone, RepliesFollow, StaysRun, TellsJoined};
+
+use conn::one_outcome;
+
+/// Feeding a link and then another is feeding the other and then the first.
+pub fn free_order()
+    ensures { HasFreeOrder }
+{}
+
+/// What a link gives doesn't depend on the bytes of another: turns are a run exactly where those of each link are one.
+pub fn each_alone()
+    ensures { IsEachAlone }
+{}
+
+/// The events of a script, and so its output, are told by its records, but for the two exceptions of a connection, in which a
+/// cut may wait where another refuses.
+pub fn one_run()
+    ensures events { HasOneRun }
+    ensures output { HasOneOutput }
+{
+    one_outcome();
+}
+
+/// A record's bytes in pieces, with all events given behind each piece, are a run of the record as a whole, with the same
+/// events in the same order; and records that come later change nothing of it.
+pub fn pieces_join()
+    ensures pieces { HasFreePieces }
+    ensures told { TellsJoined }
+    ensures stays { StaysRun }
+{}
+
+/// Events are answered one after the other, on what those before them left: the output for events and then for others is that
+/// for the first, and then that for the others.
+pub fn replies_follow()
+    ensures { RepliesFollow }
+{}
