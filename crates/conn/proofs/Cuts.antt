@@ -213,7 +213,7 @@ cuts_are_steps limit xs ys c d ic id =
     let found = first_messages limit c.whole d.whole (tail_text c.tail ++ ys) d.tail ic.whole id.whole id.tail text in
     (found.0, (found.1.0, record { each = found.1.1.0; tail = id.tail; text = found.1.1.1 }))
 
-each_append : {A : Type 0} (P : A → Type 0) (xs ys : List A) → AllByRecursion P xs → AllByRecursion P ys → AllByRecursion P (xs ++ ys)
+pub each_append : {A : Type 0} (P : A → Type 0) (xs ys : List A) → AllByRecursion P xs → AllByRecursion P ys → AllByRecursion P (xs ++ ys)
 each_append P [] ys ex ey = ey
 each_append P (x ∷ xs) ys ex ey = (ex.0, each_append P xs ys ex.1 ey)
 

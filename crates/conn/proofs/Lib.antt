@@ -9,3 +9,4 @@ pub mod FewHeads
 pub mod Outcomes
 pub mod Tails
 pub mod Walks
+pub mod Completions

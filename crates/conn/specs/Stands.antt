@@ -1,5 +1,5 @@
 -- What a connection stands for: the bytes that it was fed, and what it has given out.
-use Rattle.std.specs.Prelude.{◌≡◌, ℕ, ◌+◌, ◌*◌, ◌<◌, ◌≤◌, true, false, List, [], ◌∷◌, ◌++◌, length, drop, Result, Ok, Err, flat_map}
+use Rattle.std.specs.Prelude.{◌≡◌, ℕ, ◌+◌, ◌*◌, ◌<◌, ◌≤◌, true, false, List, [], ◌∷◌, ◌++◌, length, drop, Result, Ok, Err, flat_map, vec_len, vec_capacity}
 use Rattle.std.specs.List.{AllByRecursion}
 use Rattle.httparse.specs.Grammar.{RequestHead, print_request}
 use Rattle.conn.specs.Message.{Message, messages_text}
@@ -70,6 +70,10 @@ IsShut c = c.state ≡ state.Shut
 -- the limit of a file, in bytes
 abbrev pub limit_of : Conn → ℕ
 limit_of c = c.limit
+
+-- so many bytes more can be kept without memory
+abbrev pub HasRoom : Conn → ℕ → Type 0
+HasRoom c more = vec_len c.buf + more ≤ vec_capacity c.buf
 
 -- nothing is read after that
 abbrev pub IsOver : State → Type 0
@@ -181,3 +185,7 @@ pub record Settled (limit : ℕ) (fed : List ℕ) (given : List Event) : Type 0 
   pub cut : Cut
   pub link : IsLinkCut limit fed cut
   pub events : given ≡ cut_events cut
+
+-- with further events behind those that were given, all was given of a cut of these bytes
+abbrev pub HasCompletion : ℕ → List ℕ → List Event → Type 0
+HasCompletion limit fed given = (more : List Event) × Settled limit fed (given ++ more)

@@ -1,10 +1,12 @@
 // One connection: its bytes come in any pieces, and its requests go out.
-ghost use Rattle.std.specs.Prelude.{◌≡◌, Ok, ◌≤◌, ◌<◌, ◌++◌, [], IfOk, ℕ, List, vec_len, IsTrue, MatchResult, drop};
+ghost use Rattle.std.specs.Prelude.{◌≡◌, Ok, ◌≤◌, ◌<◌, ◌++◌, [], IfOk, IsOk, OnOk, ℕ, List, length, vec_len, IsTrue, MatchResult, drop};
 ghost use Rattle.conn.specs.Cut.{Event};
 
 use crate::advance::advance;
+use crate::completion::body_completion;
 use crate::request::Next;
 use crate::state::{Advance, State};
+use crate::walk::has_cut;
 use cta_site::NoMemory;
 use std::alloc::Global;
 
@@ -21,7 +23,7 @@ pub struct Conn {
 }
 
 impl Conn {
-    ghost use Rattle.conn.specs.Stands.{Stands, Answers, IsOver, IsShut, UnlessLast, left, limit_of, rest_of};
+    ghost use Rattle.conn.specs.Stands.{Stands, Answers, HasCompletion, HasRoom, IsOver, IsShut, UnlessLast, left, limit_of, rest_of};
     ghost use Rattle.conn.specs.declared.request.Next.TheVariants as Next;
 
     /// A connection that was fed nothing. A file may have `file_limit` bytes. It takes no memory.
@@ -47,6 +49,7 @@ impl Conn {
     // the last time.
     fn drop_read(&mut self)
         ensures rest { rest_of self.new ≡ rest_of self.old }
+        ensures room { (more : ℕ) → HasRoom self.old more → HasRoom self.new more }
         ensures state { self.new.state ≡ self.old.state }
         ensures limit { limit_of self.new ≡ limit_of self.old }
     {
@@ -58,12 +61,29 @@ impl Conn {
         }
     }
 
-    /// Takes the next piece, of any length. NoMemory leaves the connection as before. Once a refusal or a closing request was
-    /// given, or `close` was called, the piece is dropped. Its cost is the length of the piece, and over all pieces together
-    /// one move of each byte and the growing of the memory.
+    /// Makes room for so many bytes more: a piece of at most that length, fed next, takes no memory. NoMemory makes no room.
+    /// In both cases the connection stands for the same bytes and gave the same. Its cost is part of that of `feed`: over all
+    /// calls of both, one move of each byte and the growing of the memory.
+    pub fn reserve(&mut self, more: usize) -> Result<(), NoMemory>
+        ensures stands { (fed : List ℕ) (given : List Event) → Stands self.old fed given → Stands self.new fed given }
+        ensures room { OnOk result (HasRoom self.new more) }
+        ensures shut { IsShut self.old → IsShut self.new }
+        ensures limit { limit_of self.new ≡ limit_of self.old }
+    {
+        self.drop_read();
+        match self.buf.reserve(more) {
+            Ok(()) => Ok(()),
+            Err(_) => Err(NoMemory),
+        }
+    }
+
+    /// Takes the next piece, of any length. NoMemory leaves the connection as before; it does not come where `reserve` made
+    /// room for the piece. Once a refusal or a closing request was given, or `close` was called, the piece is dropped. Its cost
+    /// is the length of the piece, and over all pieces together one move of each byte and the growing of the memory.
     pub fn feed(&mut self, piece: &[u8]) -> Result<(), NoMemory>
         ensures fed { (fed : List ℕ) (given : List Event) → Stands self.old fed given
             → MatchResult result (λ _. Stands self.new (fed ++ piece.now) given) (λ _. Stands self.new fed given) }
+        ensures fits { HasRoom self.old (length piece.now) → IsOk result }
         ensures shut { IsShut self.old → IsShut self.new }
         ensures limit { limit_of self.new ≡ limit_of self.old }
     {
@@ -96,6 +116,19 @@ impl Conn {
                 }
                 Err(e) => return Err(e),
             }
+        }
+    }
+
+    /// What was given is the front of what a cut of all bytes gives that were fed: the further events are found by walking over
+    /// the bytes that were not read. It takes no memory, and time in proportion to those bytes.
+    pub fn has_completion(&self)
+        ensures { (fed : List ℕ) (given : List Event) → Stands self.now fed given → HasCompletion (limit_of self.now) fed given }
+    {
+        match &self.state {
+            State::AtHead => has_cut(self.limit, &self.buf[self.at..]),
+            State::InBody(body) => body_completion(self.limit, body, &self.buf[self.at..]),
+            State::Over => {}
+            State::Shut => {}
         }
     }
 

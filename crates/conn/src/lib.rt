@@ -3,6 +3,7 @@
 #![tactic(auto)]
 
 mod advance;
+mod completion;
 mod connection;
 mod laws;
 mod pieces;

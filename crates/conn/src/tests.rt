@@ -191,3 +191,24 @@ fn lengths_and_ends(rt: HostRuntime) {
     one_outcome();
     has_cut(1000, b"GET /a HTTP/1.1\r\nhost: t\r\n\r\nGE");
 }
+
+// What a piece gives for which room was made.
+fn given_reserved(alloc: Global, piece: &[u8]) -> Vec<u8> {
+    let mut conn = Conn::new(alloc, 1000);
+    let mut out = Vec::new(alloc);
+    if conn.reserve(piece.len()).is_err() {
+        put(&mut out, b"no room ");
+    }
+    feed_to(alloc, &mut conn, &mut out, piece);
+    conn.has_completion();
+    out
+}
+
+#[test]
+fn room_made(rt: HostRuntime) {
+    let piece = b"GET /a HTTP/1.1\r\nhost: t\r\n\r\nGE";
+    assert_eq!(rt;
+        given_reserved(rt.alloc(), piece).as_slice(),
+        b"GET/a=; ".as_slice()
+    );
+}

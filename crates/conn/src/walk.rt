@@ -9,14 +9,14 @@ use crate::place::{Place, Step, go_on, start_of};
 use wire_http::{Judged, WireRefusal, judge_head};
 
 // What a body comes to.
-enum BodyEnd {
+pub(crate) enum BodyEnd {
     // It is whole with so many bytes.
     Whole(usize),
     Open,
     Refused(WireRefusal),
 }
 
-fn body_end(rest: &[u8], start: Place) -> BodyEnd
+pub(crate) fn body_end(rest: &[u8], start: Place) -> BodyEnd
     ensures ends { (limit : ℕ) (h : RequestHead) (p : Part) → IsAt limit h p start → EndsBody limit h p rest.now result }
     ensures within { EndWithin rest.now result }
 {

@@ -1,6 +1,6 @@
 -- One connection of many is changed.
 use Rattle.std.proofs.Common.{◌≡◌, ◌≢◌, ℕ, zero, suc, ◌<◌, List, [], ◌∷◌, ◌++◌, length, arith, subst}
-use Rattle.std.specs.Prelude.{Some, Result, Ok, Err, MatchResult, OnErr, slice_get, slice_set}
+use Rattle.std.specs.Prelude.{Some, Result, Ok, Err, MatchResult, slice_get, slice_set}
 use Rattle.std.proofs.lemmas.Grind.{common_steps}
 use Rattle.std.proofs.lemmas.Option.{gets, same_Some, none-some}
 use Rattle.std.proofs.lemmas.Bool.Decides.{nat_tests}
@@ -30,8 +30,3 @@ got_pushed P (z ∷ zs) y h here (suc k) x is = got_pushed P zs y (λ j w e. h (
 pub each_result : {T E : Type 0} {P Q P' Q' : Type 0} (r : Result T E) → MatchResult r (λ _. P) (λ _. Q) → (P → P') → (Q → Q') → MatchResult r (λ _. P') (λ _. Q')
 each_result (Ok x) h f g = f h
 each_result (Err e) h f g = g h
-
--- what holds anyhow holds where there is an error
-pub on_err : {T E : Type 0} {Q : Type 0} (r : Result T E) → Q → OnErr r Q
-on_err (Ok x) h = tt
-on_err (Err e) h = h

@@ -1,19 +1,19 @@
 -- What the links stand for when one of them was called.
-use Rattle.std.proofs.Common.{◌≡◌, ◌≢◌, ℕ, ◌<◌, List, [], ◌++◌, length, sym, ap, ◌∙◌, subst, inl, inr, append-nil, append_assoc, refl, ◌∷◌}
-use Rattle.std.specs.Prelude.{Option, Some, Result, Ok, Err, IfOk, slice_get, slice_set}
+use Rattle.std.proofs.Common.{◌≡◌, ◌≢◌, ℕ, ◌<◌, ◌≤◌, arith, List, [], ◌++◌, length, sym, ap, ◌∙◌, subst, inl, inr, append-nil, append_assoc, refl, ◌∷◌}
+use Rattle.std.specs.Prelude.{Option, Some, Result, Ok, Err, IfOk, OnOk, slice_get, slice_set}
 use Rattle.std.proofs.lemmas.Bool.{cases_eq}
 use Rattle.std.proofs.lemmas.Grind.{flat_map-append}
 use Rattle.std.proofs.lemmas.Option.{same_Some}
 use Rattle.conn.specs.Cut.{Event}
-use Rattle.conn.specs.Stands.{StandsAt, Ended, Unfinished, Settled, IsOver, limit_of, rest_of, next_events, UnlessLast, left, given_by, Answers as ConnAnswers}
+use Rattle.conn.specs.Stands.{StandsAt, Ended, Unfinished, Settled, IsOver, limit_of, rest_of, next_events, UnlessLast, HasCompletion, HasRoom, left, given_by, Answers as ConnAnswers}
 use Rattle.conn.specs.declared.connection.Conn.{Conn}
 use Rattle.conn.specs.declared.state.State.{State}
 use Rattle.conn.specs.declared.state.State.TheVariants as state
 use Rattle.conn.specs.declared.request.Next.{Next}
 use Rattle.conn.specs.declared.request.Next.TheVariants as next
-use Rattle.links.specs.Standing.{behind, ConnStands, EachStands, Says, GivesOn, left_of}
+use Rattle.links.specs.Standing.{behind, ConnStands, EachStands, Says, GivesOn, IsRoomy, GoesOn, GoesOnJoined, left_of}
 use Rattle.links.specs.Run.{Turn, bytes_on, events_on, IsRun, join}
-use Rattle.links.proofs.Runs.{bytes_last, events_last, run_joined}
+use Rattle.links.proofs.Runs.{bytes_last, events_last, run_both, run_joined}
 use Rattle.links.proofs.Elements.{behind_same, behind_other, got_same, got_other}
 
 -- one connection was put in place of another, and stands for its own
@@ -80,6 +80,15 @@ pub left_less : {E : Type 0} (r : Result Next E) (old new : Option Conn) (before
     → IfOk r (λ n. UnlessLast n (left after < left before)) → IfOk r (λ n. UnlessLast n (left_of new < left_of old))
 left_less r old new before after is is' less = rw (is, is') less
 
+-- room on a link is room of its connection
+pub roomy : (slot : Option Conn) (conn : Conn) (more : ℕ) → slot ≡ Some conn → IsRoomy slot more → HasRoom conn more
+roomy slot conn more is room = rw is at room
+
+pub roomy_after : {T E : Type 0} (r : Result T E) (slot : Option Conn) (conn : Conn) (more : ℕ) → slot ≡ Some conn → OnOk r (HasRoom conn more)
+    → OnOk r ((less : ℕ) → less ≤ more → IsRoomy slot less)
+roomy_after (Ok x) slot conn more is room = λ less few. let fits : HasRoom conn less = omega (arith, room, few) in rw is fits
+roomy_after (Err e) slot conn more is room = tt
+
 -- lists for each link that are the same
 pub same_stands : (conns : List Conn) (limit : ℕ) (fed fed' : ℕ → List ℕ) (given given' : ℕ → List Event) → ((link : ℕ) → fed link ≡ fed' link)
     → ((link : ℕ) → given link ≡ given' link) → EachStands conns limit fed given → EachStands conns limit fed' given'
@@ -112,7 +121,7 @@ pub same_given : (conns : List Conn) (limit : ℕ) (fed : ℕ → List ℕ) (giv
 same_given conns limit fed given at xs ys e stand = subst (λ zs. EachStands conns limit fed (behind given at (given_by zs))) (sym e) stand
 
 -- nothing more behind one of the lists
-behind_none : (given : ℕ → List Event) (at link : ℕ) → behind given at [] link ≡ given link
+pub behind_none : {A : Type 0} (given : ℕ → List A) (at link : ℕ) → behind given at [] link ≡ given link
 behind_none given at link =
     elim (cases_eq link at) [
       | inl e ↦ subst (λ k. behind given at [] k ≡ given k) (sym e) (behind_same given at [] ∙ append-nil (given at))
@@ -146,3 +155,25 @@ stand_joined conns limit turns a b e h = (
   same_stands conns limit _ _ _ _ (λ l. bytes_last turns a b l e) (λ l. events_last turns a b l e) h.0,
   run_joined limit turns a b [] e (subst (IsRun limit) (append_assoc turns (a ∷ []) (b ∷ [])) h.1),
 )
+
+-- what was given of a link's bytes, and the further events of a cut of them, are its events
+completed : (limit : ℕ) (fed fed' : List ℕ) (given given' some : List Event) → fed' ≡ fed → given' ≡ given ++ some → HasCompletion limit fed' given'
+    → (events : List Event) × Settled limit fed (given ++ events)
+completed limit fed fed' given given' some e f (more, s) =
+    (some ++ more, record { cut = s.cut; link = rw (← e) s.link; events = sym (append_assoc given some more) ∙ ap (λ es. es ++ more) (sym f) ∙ s.events })
+
+-- the bytes of a link were fed, and some of their events were given
+pub run_goes_on : (limit : ℕ) (turns : List Turn) (at moment : ℕ) (piece : List ℕ) (some : List Event) → IsRun limit turns
+    → HasCompletion limit (behind (λ l. bytes_on l turns) at piece at) (behind (λ l. events_on l turns) at some at) → GoesOn limit turns at moment piece
+run_goes_on limit turns at moment piece some run h =
+    let bytes : ℕ → List ℕ = λ l. bytes_on l turns in
+    let events : ℕ → List Event = λ l. events_on l turns in
+    let all = completed limit (bytes at ++ piece) (behind bytes at piece at) (events at) (behind events at some at) some (behind_same bytes at piece) (behind_same events at some) h in
+    (all.0, run_both limit [] turns (record { link = at; moment = moment; bytes = piece; events = all.0 } ∷ []) run (all.1, tt))
+
+-- the same behind a turn that was begun
+pub joined_goes_on : (limit : ℕ) (turns : List Turn) (begun : Turn) (at : ℕ) (piece : List ℕ) → begun.link ≡ at → GoesOn limit (turns ++ begun ∷ []) at begun.moment piece
+    → GoesOnJoined limit turns begun piece
+joined_goes_on limit turns begun at piece e (events, run) =
+    let t : Turn = record { link = at; moment = begun.moment; bytes = piece; events = events } in
+    (events, run_joined limit turns begun t [] e (subst (IsRun limit) (append_assoc turns (begun ∷ []) (t ∷ [])) run))

@@ -1,11 +1,13 @@
 -- Laws of links and of runs.
-use Rattle.std.specs.Prelude.{◌≡◌, ◌≢◌, ◌↔◌, ℕ, ◌⊎◌, List, ◌∷◌, ◌++◌}
+use Rattle.std.specs.Prelude.{◌≡◌, ◌≢◌, ◌↔◌, ℕ, ◌⊎◌, ◌==◌, List, [], ◌∷◌, ◌++◌}
+use Rattle.std.specs.List.{filter, AllByRecursion}
 use Rattle.cta_model.specs.Kept.{Kept}
 use Rattle.conn.specs.Cut.{Cut, IsLinkCut}
 use Rattle.conn.specs.Unique.{MayWait}
-use Rattle.links.specs.Standing.{behind}
+use Rattle.links.specs.Standing.{behind, StandFor}
 use Rattle.links.specs.Run.{Feed, Turn, Told, on, bytes_on, IsRun, IsRunOf, join, told_by, all_told}
-use Rattle.links.specs.Replies.{Answering, after, output_from}
+use Rattle.links.specs.Replies.{Answering, after, text_for, kept_behind, replies_from, output_from}
+use Rattle.links.specs.declared.links.Links.{Links}
 
 -- feeding two links in one order or the other is the same, for each link
 abbrev pub HasFreeOrder : Type 0
@@ -56,3 +58,35 @@ RepliesFollow =
     (a : Answering) (kept : Kept) (first more : List Told)
     → (output_from a kept (first ++ more) ≡ output_from a kept first ++ output_from a (after a kept first) more)
     × (after a kept (first ++ more) ≡ after a (after a kept first) more)
+
+-- a record of which no byte has come yet is a turn that completes nothing
+abbrev pub BeginsEmpty : Type 0
+BeginsEmpty =
+    (links : Links) (limit : ℕ) (turns : List Turn) (link moment : ℕ) → StandFor links limit turns
+    → StandFor links limit (turns ++ record { link = link; moment = moment; bytes = []; events = [] } ∷ [])
+
+-- an event leaves what is kept as it is: so does all that doesn't ask the archive to change
+abbrev pub LeavesKept : Answering → Kept → Told → Type 0
+LeavesKept a kept t = kept_behind a kept t.moment t.event ≡ kept
+
+-- as long as no event changes what is kept, the replies on a link are those to its own events alone
+abbrev pub HasRepliesApart : Type 0
+HasRepliesApart =
+    (a : Answering) (kept : Kept) (told : List Told) (link : ℕ) → AllByRecursion (LeavesKept a kept) told
+    → filter (λ r. r.link == link) (replies_from a kept told) ≡ replies_from a kept (filter (λ t. t.link == link) told)
+
+-- the events of a link are those of its own turns
+abbrev pub HasEventsApart : Type 0
+HasEventsApart = (turns : List Turn) (link : ℕ) → filter (λ t. t.link == link) (all_told turns) ≡ all_told (on link turns)
+
+-- each event of a turn has the link and the moment of its record
+abbrev pub KeepsPlace : Type 0
+KeepsPlace = (t : Turn) → AllByRecursion (λ e. (e.link ≡ t.link) × (e.moment ≡ t.moment)) (told_by t)
+
+-- the reply to an event stands on the event's link, and is made at its moment on what the events before it left
+abbrev pub RepliesInPlace : Type 0
+RepliesInPlace =
+    (a : Answering) (kept : Kept) (front : List Told) (t : Told) (back : List Told)
+    → replies_from a kept (front ++ t ∷ back)
+    ≡ replies_from a kept front ++ record { link = t.link; text = text_for a (after a kept front) t.moment t.event }
+    ∷ replies_from a (kept_behind a (after a kept front) t.moment t.event) back

@@ -1,11 +1,11 @@
 -- What the connections of the links stand for.
-use Rattle.std.specs.Prelude.{◌≡◌, ℕ, List, ◌++◌, ◌⊎◌, Option, Some, None, Result, Ok, Err, if◌then◌else◌, ◌==◌, slice_get}
+use Rattle.std.specs.Prelude.{◌≡◌, ℕ, List, [], ◌∷◌, ◌++◌, Option, Some, None, Result, Ok, Err, if◌then◌else◌, ◌==◌, slice_get}
 use Rattle.conn.specs.Cut.{Event}
-use Rattle.conn.specs.Stands.{Stands, Ended, Unfinished, limit_of, left, next_events, given_by}
+use Rattle.conn.specs.Stands.{Stands, Ended, Unfinished, HasRoom, limit_of, left, next_events, given_by}
 use Rattle.conn.specs.declared.connection.Conn.{Conn}
 use Rattle.conn.specs.declared.request.Next.{Next}
 use Rattle.conn.specs.declared.request.Next.TheVariants as next
-use Rattle.links.specs.Run.{Turn, bytes_on, events_on, IsRun}
+use Rattle.links.specs.Run.{Turn, bytes_on, events_on, IsRun, join}
 use Rattle.links.specs.declared.links.Links.{Links}
 
 -- a list for each link, with more behind that of one link
@@ -47,6 +47,15 @@ GivesOn conns limit link (Err e) fed given = EachStands conns limit fed given
 abbrev pub Answers : {E : Type 0} → Links → ℕ → ℕ → Result Next E → (ℕ → List ℕ) → (ℕ → List Event) → Type 0
 Answers links limit link result fed given = GivesOn links.conns.items limit link result fed given
 
+-- a connection that is there can keep so many bytes more without memory
+abbrev pub IsRoomy : Option Conn → ℕ → Type 0
+IsRoomy None more = ⊥
+IsRoomy (Some conn) more = HasRoom conn more
+
+-- the connection of a link can keep so many bytes more without memory
+abbrev pub HasRoomOn : Links → ℕ → ℕ → Type 0
+HasRoomOn links link more = IsRoomy (conn_on links link) more
+
 -- what is left to do on that connection
 abbrev pub left_of : Option Conn → ℕ
 left_of None = 0
@@ -64,7 +73,11 @@ turn_of link moment bytes answers = record { link = link; moment = moment; bytes
 abbrev pub StandFor : Links → ℕ → List Turn → Type 0
 StandFor links limit turns = LinksStand links limit (λ link. bytes_on link turns) (λ link. events_on link turns) × IsRun limit turns
 
--- after want of memory: a piece was not fed, or it was fed and some of what it gives was given
-abbrev pub LeftWanting : Links → ℕ → ℕ → List ℕ → (ℕ → List ℕ) → (ℕ → List Event) → Type 0
-LeftWanting links limit link piece fed given =
-    LinksStand links limit fed given ⊎ ((events : List Event) × LinksStand links limit (behind fed link piece) (behind given link events))
+-- the run of these turns goes on with a turn of those bytes, and some events
+abbrev pub GoesOn : ℕ → List Turn → ℕ → ℕ → List ℕ → Type 0
+GoesOn limit turns link moment bytes = (events : List Event) × IsRun limit (turns ++ record { link = link; moment = moment; bytes = bytes; events = events } ∷ [])
+
+-- the run of these turns and of one that was begun goes on with those bytes at its end, and some events
+abbrev pub GoesOnJoined : ℕ → List Turn → Turn → List ℕ → Type 0
+GoesOnJoined limit turns begun bytes =
+    (events : List Event) × IsRun limit (turns ++ join begun (record { link = begun.link; moment = begun.moment; bytes = bytes; events = events }) ∷ [])

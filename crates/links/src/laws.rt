@@ -1,5 +1,5 @@
 // What the definitions of a run say.
-ghost use Rattle.links.specs.Laws.{HasFreeOrder, HasFreePieces, HasOneOutput, HasOneRun, IsEachAlone, RepliesFollow, StaysRun, TellsJoined};
+ghost use Rattle.links.specs.Laws.{BeginsEmpty, HasEventsApart, HasFreeOrder, HasFreePieces, HasOneOutput, HasOneRun, HasRepliesApart, IsEachAlone, KeepsPlace, RepliesFollow, RepliesInPlace, StaysRun, TellsJoined};
 
 use conn::one_outcome;
 
@@ -34,4 +34,23 @@ pub fn pieces_join()
 /// for the first, and then that for the others.
 pub fn replies_follow()
     ensures { RepliesFollow }
+{}
+
+/// A record of which no byte has come yet is a turn of the run that completes nothing: all that its link's bytes give was
+/// given before it.
+pub fn begins_empty()
+    ensures { BeginsEmpty }
+{}
+
+/// The replies on one link don't depend on the bytes of another, as long as nothing asks the archive to change: they are the
+/// replies to the events of the link's own records alone.
+pub fn replies_apart()
+    ensures replies { HasRepliesApart }
+    ensures events { HasEventsApart }
+{}
+
+/// A reply stands on the link of its own record, and is made at that record's moment, on what the events before it left.
+pub fn replies_in_place()
+    ensures place { KeepsPlace }
+    ensures replies { RepliesInPlace }
 {}

@@ -7,7 +7,10 @@ mod laws;
 mod links;
 
 pub use conn::{Next, Request};
-pub use laws::{each_alone, free_order, one_run, pieces_join, replies_follow};
+pub use laws::{
+    begins_empty, each_alone, free_order, one_run, pieces_join, replies_apart, replies_follow,
+    replies_in_place,
+};
 pub use links::Links;
 
 #[cfg(test)]

@@ -1,5 +1,5 @@
 // The connections of the links.
-ghost use Rattle.std.specs.Prelude.{◌≡◌, ◌≢◌, ◌<◌, ℕ, List, [], ◌∷◌, ◌++◌, IfOk, OnOk, OnErr, MatchResult, vec_len};
+ghost use Rattle.std.specs.Prelude.{◌≡◌, ◌≢◌, ◌<◌, ◌≤◌, ℕ, List, [], ◌∷◌, ◌++◌, IfOk, IsOk, OnOk, MatchResult, length, vec_len};
 ghost use Rattle.conn.specs.Cut.{Event};
 
 use conn::{Conn, Next};
@@ -18,9 +18,9 @@ pub struct Links {
 }
 
 impl Links {
-    ghost use Rattle.conn.specs.Stands.{Settled, UnlessLast, given_by};
+    ghost use Rattle.conn.specs.Stands.{HasCompletion, Settled, UnlessLast, given_by};
     ghost use Rattle.links.specs.Run.{Turn, join};
-    ghost use Rattle.links.specs.Standing.{behind, LinksStand, Answers, conn_on, left_on, turn_of, StandFor, LeftWanting};
+    ghost use Rattle.links.specs.Standing.{behind, LinksStand, Answers, HasRoomOn, conn_on, left_on, turn_of, StandFor, GoesOn, GoesOnJoined};
 
     /// The links of a script of which nothing was read. A file may have `file_limit` bytes. NoMemory leaves nothing.
     pub fn new(alloc: Global, file_limit: u64) -> Result<Links, NoMemory>
@@ -35,14 +35,27 @@ impl Links {
         Ok(Links { conns })
     }
 
+    /// Makes room on a link for so many bytes more: a piece of at most that length, fed to it next, takes no memory. NoMemory
+    /// makes no room. In both cases all links stand as before. Its cost is that of `Conn::reserve`, and none for the other links.
+    pub fn reserve(&mut self, link: u32, more: usize) -> Result<(), NoMemory>
+        requires { link < 1024 }
+        ensures stands { (limit : ℕ) (fed : ℕ → List ℕ) (given : ℕ → List Event) → LinksStand self.old limit fed given
+            → LinksStand self.new limit fed given }
+        ensures room { OnOk result ((less : ℕ) → less ≤ more → HasRoomOn self.new link less) }
+        ensures others { (other : ℕ) → other ≢ link → conn_on self.new other ≡ conn_on self.old other }
+    {
+        self.conns[link as usize].reserve(more)
+    }
+
     /// Feeds a piece, of any length, to a link. Once the link gave a refusal or a closing request, the piece is dropped.
-    /// NoMemory leaves all links as before. Its cost is that of `Conn::feed`: the length of the piece, and none for the
-    /// other links.
+    /// NoMemory leaves all links as before; it does not come where `reserve` made room for the piece. Its cost is that of
+    /// `Conn::feed`: the length of the piece, and none for the other links.
     pub fn feed(&mut self, link: u32, piece: &[u8]) -> Result<(), NoMemory>
         requires { link < 1024 }
         // The link stands for its bytes with the piece behind them, and has given what it had given.
         ensures fed { (limit : ℕ) (fed : ℕ → List ℕ) (given : ℕ → List Event) → LinksStand self.old limit fed given
             → MatchResult result (λ _. LinksStand self.new limit (behind fed link piece.now) given) (λ _. LinksStand self.new limit fed given) }
+        ensures fits { HasRoomOn self.old link (length piece.now) → IsOk result }
         ensures others { (other : ℕ) → other ≢ link → conn_on self.new other ≡ conn_on self.old other }
     {
         self.conns[link as usize].feed(piece)
@@ -92,24 +105,36 @@ impl Links {
         }
     }
 
+    // What a link gave is the front of what a cut of all its bytes gives. It takes no memory.
+    fn has_completion(&self, link: u32)
+        requires { link < 1024 }
+        ensures { (limit : ℕ) (fed : ℕ → List ℕ) (given : ℕ → List Event) → LinksStand self.now limit fed given
+            → HasCompletion limit (fed link) (given link) }
+    {
+        self.conns[link as usize].has_completion();
+    }
+
     /// Feeds a piece to a link and gives all events that it completes: 100 Continue, requests and the refusal, in their order.
-    /// The bytes of a script's record are fed so, piece by piece, and at least once, be it with no bytes. After NoMemory the
-    /// piece was not fed, or it was fed and some of its events were given and are lost.
+    /// The bytes of a script's record are fed so, piece by piece, and at least once, be it with no bytes. NoMemory loses the
+    /// events of the piece at hand, and the run stands: where `reserve` had made room for the piece, it goes on with the piece
+    /// and all its events, those that are lost among them. Nothing is said of the links then.
     pub fn turn(&mut self, alloc: Global, link: u32, piece: &[u8]) -> Result<Vec<Next>, NoMemory>
         requires { link < 1024 }
-        // The first piece of a record begins a turn.
+        // The first piece of a record begins a turn, be its events given or lost.
         ensures first { (limit : ℕ) (turns : List Turn) (moment : ℕ) → StandFor self.old limit turns
-            → IfOk result (λ events. StandFor self.new limit (turns ++ turn_of link moment piece.now events.items ∷ [])) }
-        // A further piece, and its events, stand behind those of the record before it.
+            → MatchResult result (λ events. StandFor self.new limit (turns ++ turn_of link moment piece.now events.items ∷ []))
+            (λ _. HasRoomOn self.old link (length piece.now) → GoesOn limit turns link moment piece.now) }
+        // A further piece, and its events, given or lost, stand behind those of the record before it.
         ensures further { (limit : ℕ) (turns : List Turn) (begun : Turn) → begun.link ≡ link → StandFor self.old limit (turns ++ begun ∷ [])
-            → IfOk result (λ events. StandFor self.new limit (turns ++ join begun (turn_of link begun.moment piece.now events.items) ∷ [])) }
-        // What stands where memory was wanted.
-        ensures wanting { (limit : ℕ) (fed : ℕ → List ℕ) (given : ℕ → List Event) → LinksStand self.old limit fed given
-            → OnErr result (LeftWanting self.new limit link piece.now fed given) }
+            → MatchResult result (λ events. StandFor self.new limit (turns ++ join begun (turn_of link begun.moment piece.now events.items) ∷ []))
+            (λ _. HasRoomOn self.old link (length piece.now) → GoesOnJoined limit turns begun piece.now) }
     {
         self.feed(link, piece)?;
         let mut events = Vec::new(alloc);
-        self.next_all(alloc, link, &mut events)?;
+        if let Err(e) = self.next_all(alloc, link, &mut events) {
+            self.has_completion(link);
+            return Err(e);
+        }
         Ok(events)
     }
 }

@@ -12,3 +12,6 @@ returns-in-Ok-clause-fed c = λ fed given s.
     let within : now.at ≤ length now.buf.items = omega (arith, now.buf.ok.0, now.within) in
     let stands : StandsAt now.limit now.state (drop now.at now.buf.items) fed given = rw (c.drop_read.ensures.limit, c.drop_read.ensures.state, c.drop_read.ensures.rest) s in
     kept_more now.limit now.state now.at now.buf.items _ c.args.piece.now fed given within c.in-Ok.ensures.items stands
+
+pub returns-in-Err-clause-fits : goal.returns-in-Err-clause-fits
+returns-in-Err-clause-fits c = λ room. absurd (omega (arith, c.drop_read.ensures.room (length c.args.piece.now) room, c.in-Err.ensures.full))
