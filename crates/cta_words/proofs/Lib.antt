@@ -1,0 +1,4 @@
+mod Turns
+mod Leaves
+mod Lines
+mod Answered
