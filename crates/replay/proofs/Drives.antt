@@ -18,7 +18,11 @@ use Rattle.cta_site.specs.Names.{drive_names}
 use Rattle.cta_site.specs.WellFormed.{IsWellFormed}
 use Rattle.replay.specs.Bytes.{Without}
 use Rattle.replay.specs.Line.{drive_name}
-use Rattle.replay.proofs.Messages.{holds_at}
+
+holds_at : {X : Type 0} (P : X → Type 0) (xs : List X) (i : ℕ) (d : X) → AllByRecursion P xs → i < length xs → P (get_or xs i d)
+holds_at P [] i d p h = absurd (omega arith)
+holds_at P (x ∷ xs) zero d p h = p.0
+holds_at P (x ∷ xs) (suc i) d p h = holds_at P xs i d p.1 (omega arith)
 
 abbrev name_of : Drive → List ℕ
 name_of d = d.name

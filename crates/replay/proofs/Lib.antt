@@ -1,9 +1,11 @@
+pub mod Forms
 pub mod Numbers
 pub mod Parts
-pub mod Messages
 pub mod Drives
-pub mod Replies
+pub mod Served
 pub mod Taking
+pub mod Writing
+pub mod Delivering
 pub mod Ending
 pub mod Behind
 pub mod Lines
@@ -11,7 +13,7 @@ pub mod Running
 pub mod Texts
 pub mod Readings
 pub mod OneReading
+pub mod OneOutput
 pub mod Completing
 pub mod Sites
 pub mod Whole
-pub mod Worked

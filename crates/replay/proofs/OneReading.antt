@@ -1,5 +1,5 @@
 -- Two cuts of the same bytes are one.
-use Rattle.std.proofs.Common.{◌≡◌, ◌≢◌, ℕ, ◌+◌, ◌<◌, ◌≤◌, ◌⊎◌, inl, inr, List, [], ◌∷◌, ◌++◌, length, codes, refl, sym, ap, ◌∙◌, subst, arith, append_assoc, append-nil, length-append}
+use Rattle.std.proofs.Common.{◌≡◌, ◌≢◌, ℕ, ◌+◌, ◌≤◌, ◌⊎◌, inl, inr, List, [], ◌∷◌, ◌++◌, length, codes, refl, sym, ap, ◌∙◌, subst, arith, append_assoc, append-nil, length-append}
 use Rattle.std.specs.List.{AllByRecursion}
 use Rattle.std.specs.Fmt.{decimal}
 use Rattle.std.proofs.lemmas.Fmt.{decimal_injective}
@@ -7,14 +7,15 @@ use Rattle.std.proofs.lemmas.List.{append_cancel_left}
 use Rattle.cta_site.specs.declared.site.Site.{Site}
 use Rattle.cta_site.specs.WellFormed.{IsWellFormed}
 use Rattle.replay.specs.Bytes.{Without}
-use Rattle.replay.specs.Line.{text, http_text, step_words, drive_name, IsHttp, IsStep, IsLine}
-use Rattle.replay.specs.Script.{Event, Held, OneMessage, NoMessage, held_bytes, IsHeld, Tail, Ended, InLine, InBytes, BadLine, LongLine, NoLf, UnbuiltStep, UnbuiltBytes, IsTail, IsEvent, HasOneReading, ended, whole_bytes, tail_bytes, spelling}
+use Rattle.replay.specs.Line.{text, http_text, step_words, drive_name, IsStep, IsLine}
+use Rattle.links.specs.Run.{Feed}
+use Rattle.replay.specs.Script.{Tail, Ended, InLine, InBytes, BadLine, LongLine, NoLf, UnbuiltStep, IsTail, IsRecord, HasOneReading, ended, whole_bytes, tail_bytes, spelling}
 use Rattle.replay.specs.declared.line.Line.{Line}
 use Rattle.replay.specs.declared.line.Line.TheVariants.{Http, Step, End}
 use Rattle.replay.proofs.Parts.{same_words, no_word, Without-decimal}
 use Rattle.replay.proofs.Drives.{Without-drive, same_drive}
-use Rattle.replay.proofs.Texts.{same_text, same_head, same_front, same_message, not_step, Without-text, Without-word}
-use Rattle.replay.proofs.Readings.{same_record, against, below_event, spelled, is_line, line_of_event, behind_line}
+use Rattle.replay.proofs.Texts.{same_text, same_head, same_front, not_step, Without-text, Without-word}
+use Rattle.replay.proofs.Readings.{same_record, against, below_record, spelled, line_of_record, behind_line}
 
 -- ---- lines
 
@@ -57,12 +58,11 @@ data Front : Type 0 where
 abbrev front_of : Tail → Front
 front_of Ended = Said End []
 front_of (InLine part) = Open part
-front_of (InBytes link moment len held) = Said (Http link moment len) (held_bytes held)
+front_of (InBytes link moment len held) = Said (Http link moment len) held
 front_of (BadLine line) = Unsaid line
 front_of (LongLine part) = Open part
-front_of (NoLf link moment held byte) = Said (Http link moment (length (held_bytes held))) (held_bytes held ++ byte ∷ [])
+front_of (NoLf link moment bytes byte) = Said (Http link moment (length bytes)) (bytes ++ byte ∷ [])
 front_of (UnbuiltStep drive moment) = Said (Step drive moment) []
-front_of (UnbuiltBytes link moment bytes) = Said (Http link moment (length bytes)) (bytes ++ 10 ∷ [])
 
 abbrev front_bytes : Site → Front → List ℕ
 front_bytes site (Said line rest) = text site line ++ 10 ∷ rest
@@ -77,16 +77,13 @@ IsFrontOf site (Open part) = Without 10 part
 fronted : (site : Site) (t : Tail) → tail_bytes site t ≡ front_bytes site (front_of t)
 fronted site Ended = refl
 fronted site (InLine part) = refl
-fronted site (InBytes link moment len held) = append_assoc (http_text link moment len) (10 ∷ []) (held_bytes held)
+fronted site (InBytes link moment len held) = append_assoc (http_text link moment len) (10 ∷ []) held
 fronted site (BadLine line) = refl
 fronted site (LongLine part) = refl
-fronted site (NoLf link moment held byte) =
-    append_assoc (ended (http_text link moment (length (held_bytes held)))) (held_bytes held) (byte ∷ [])
-    ∙ append_assoc (http_text link moment (length (held_bytes held))) (10 ∷ []) (held_bytes held ++ byte ∷ [])
+fronted site (NoLf link moment bytes byte) =
+    append_assoc (ended (http_text link moment (length bytes))) bytes (byte ∷ [])
+    ∙ append_assoc (http_text link moment (length bytes)) (10 ∷ []) (bytes ++ byte ∷ [])
 fronted site (UnbuiltStep drive moment) = refl
-fronted site (UnbuiltBytes link moment bytes) =
-    append_assoc (ended (http_text link moment (length bytes))) bytes (10 ∷ [])
-    ∙ append_assoc (http_text link moment (length bytes)) (10 ∷ []) (bytes ++ 10 ∷ [])
 
 is_front : (site : Site) (t : Tail) → IsTail site t → IsFrontOf site (front_of t)
 is_front site Ended h = tt
@@ -94,9 +91,8 @@ is_front site (InLine part) h = h.0
 is_front site (InBytes link moment len held) h = h.0
 is_front site (BadLine line) h = (h.0, h.2)
 is_front site (LongLine part) h = h.0
-is_front site (NoLf link moment held byte) h = h.0
+is_front site (NoLf link moment bytes byte) h = h.0
 is_front site (UnbuiltStep drive moment) h = h
-is_front site (UnbuiltBytes link moment bytes) h = h.0
 
 module _ (site : Site) (valid : IsWellFormed site) where
   same_front_of : (f g : Front) → IsFrontOf site f → IsFrontOf site g → front_bytes site f ≡ front_bytes site g → f ≡ g
@@ -114,77 +110,61 @@ module _ (site : Site) (valid : IsWellFormed site) where
 
 -- ---- what a tail is, by its front
 
-module _ (site : Site) where
-  -- the bytes of an `http` record are still to come, or have come with another byte or an LF behind them
-  abbrev IsHttpTail : ℕ → ℕ → ℕ → List ℕ → Tail → Type 0
-  IsHttpTail link moment len rest t =
-      ((held : Held) × (t ≡ InBytes link moment len held) × IsHeld site held × (rest ≡ held_bytes held) × (length rest ≤ len))
-      ⊎ (((held : Held) × (byte : ℕ) × (t ≡ NoLf link moment held byte) × IsHeld site held × (rest ≡ held_bytes held ++ byte ∷ []) × (len ≡ length (held_bytes held)) × (byte ≢ 10))
-      ⊎ ((bytes : List ℕ) × (t ≡ UnbuiltBytes link moment bytes) × (rest ≡ bytes ++ 10 ∷ []) × (len ≡ length bytes)))
+-- the bytes of an `http` record are still to come, or have come with another byte behind them
+abbrev IsHttpTail : ℕ → ℕ → ℕ → List ℕ → Tail → Type 0
+IsHttpTail link moment len rest t =
+    ((t ≡ InBytes link moment len rest) × (length rest ≤ len))
+    ⊎ ((bytes : List ℕ) × (byte : ℕ) × (t ≡ NoLf link moment bytes byte) × (rest ≡ bytes ++ byte ∷ []) × (len ≡ length bytes))
 
-  abbrev IsTailOf : Front → Tail → Type 0
-  IsTailOf (Said (Http link moment len) rest) t = IsHttp link moment len × IsHttpTail link moment len rest t
-  IsTailOf (Said (Step drive moment) rest) t = t ≡ UnbuiltStep drive moment
-  IsTailOf (Said End rest) t = t ≡ Ended
-  IsTailOf (Unsaid line) t = t ≡ BadLine line
-  IsTailOf (Open part) t = ((t ≡ InLine part) × (length part ≤ 256)) ⊎ ((t ≡ LongLine part) × (length part ≡ 257))
+abbrev IsTailOf : Front → Tail → Type 0
+IsTailOf (Said (Http link moment len) rest) t = IsHttpTail link moment len rest t
+IsTailOf (Said (Step drive moment) rest) t = t ≡ UnbuiltStep drive moment
+IsTailOf (Said End rest) t = t ≡ Ended
+IsTailOf (Unsaid line) t = t ≡ BadLine line
+IsTailOf (Open part) t = ((t ≡ InLine part) × (length part ≤ 256)) ⊎ ((t ≡ LongLine part) × (length part ≡ 257))
 
-  is_tail : (t : Tail) → IsTail site t → IsTailOf (front_of t) t
-  is_tail Ended h = refl
-  is_tail (InLine part) h = inl (refl, h.1)
-  is_tail (InBytes link moment len held) h = (h.0, inl (held, refl, h.2, refl, h.1))
-  is_tail (BadLine line) h = refl
-  is_tail (LongLine part) h = inr (refl, h.1)
-  is_tail (NoLf link moment held byte) h = (h.0, inr (inl (held, byte, refl, h.1, refl, refl, h.2)))
-  is_tail (UnbuiltStep drive moment) h = refl
-  is_tail (UnbuiltBytes link moment bytes) h = (h.0, inr (inr (bytes, refl, refl, refl)))
+is_tail : (site : Site) (t : Tail) → IsTail site t → IsTailOf (front_of t) t
+is_tail site Ended h = refl
+is_tail site (InLine part) h = inl (refl, h.1)
+is_tail site (InBytes link moment len held) h = inl (refl, h.1)
+is_tail site (BadLine line) h = refl
+is_tail site (LongLine part) h = inr (refl, h.1)
+is_tail site (NoLf link moment bytes byte) h = inr (bytes, byte, refl, refl, refl)
+is_tail site (UnbuiltStep drive moment) h = refl
 
-  same_held : (h k : Held) → IsHeld site h → IsHeld site k → length (held_bytes h) < 2147483649 → held_bytes h ≡ held_bytes k → h ≡ k
-  same_held (OneMessage m) (OneMessage n) p q small e = ap OneMessage (same_message site.limits.file m n p q (omega arith) e)
-  same_held (OneMessage m) (NoMessage bytes) p q small e = absurd (q m p e)
-  same_held (NoMessage bytes) (OneMessage m) p q small e = absurd (p m q (sym e))
-  same_held (NoMessage bytes) (NoMessage bytes') p q small e = ap NoMessage e
+length-behind : (rest bytes : List ℕ) (byte : ℕ) → rest ≡ bytes ++ byte ∷ [] → length rest ≡ length bytes + 1
+length-behind rest bytes byte e = ap length e ∙ length-append bytes (byte ∷ [])
 
-  length-behind : (rest bytes : List ℕ) (byte : ℕ) → rest ≡ bytes ++ byte ∷ [] → length rest ≡ length bytes + 1
-  length-behind rest bytes byte e = ap length e ∙ length-append bytes (byte ∷ [])
+same_last : (rest xs ys : List ℕ) (a b : ℕ) → rest ≡ xs ++ a ∷ [] → rest ≡ ys ++ b ∷ [] → length xs ≡ length ys → (xs ≡ ys) × (a ≡ b)
+same_last rest xs ys a b e f n = let p = same_front xs ys (a ∷ []) (b ∷ []) n (sym e ∙ f) in (p.0, same_head a b [] [] p.1)
 
-  same_last : (rest xs ys : List ℕ) (a b : ℕ) → rest ≡ xs ++ a ∷ [] → rest ≡ ys ++ b ∷ [] → length xs ≡ length ys → (xs ≡ ys) × (a ≡ b)
-  same_last rest xs ys a b e f n = let p = same_front xs ys (a ∷ []) (b ∷ []) n (sym e ∙ f) in (p.0, same_head a b [] [] p.1)
+same_http_tail : (link moment len : ℕ) (rest : List ℕ) (t u : Tail) → IsHttpTail link moment len rest t → IsHttpTail link moment len rest u → t ≡ u
+same_http_tail a b c rest t u (inl p) (inl q) = p.0 ∙ sym q.0
+same_http_tail a b c rest t u (inl p) (inr (bytes, byte, f, s, m)) = absurd (let l = length-behind rest bytes byte s in omega (arith, p.1))
+same_http_tail a b c rest t u (inr (bytes, byte, e, r, n)) (inl q) = absurd (let l = length-behind rest bytes byte r in omega (arith, q.1))
+same_http_tail a b c rest t u (inr (bytes, byte, e, r, n)) (inr (bytes', byte', f, s, m)) =
+    let d = same_last rest bytes bytes' byte byte' r s (sym n ∙ m) in
+    e ∙ ap (λ x. NoLf a b x byte) d.0 ∙ ap (NoLf a b bytes') d.1 ∙ sym f
 
-  same_http_tail : (link moment len : ℕ) (rest : List ℕ) (t u : Tail) → len ≤ 2147483648 → IsHttpTail link moment len rest t → IsHttpTail link moment len rest u → t ≡ u
-  same_http_tail a b c rest t u small (inl (h, e, p, r, n)) (inl (k, f, q, s, m)) =
-      e ∙ ap (InBytes a b c) (same_held h k p q (let l = ap length r in omega arith) (sym r ∙ s)) ∙ sym f
-  same_http_tail a b c rest t u small (inl (h, e, p, r, n)) (inr (inl (k, byte, f, q, s, m, other))) = absurd (let l = length-behind rest (held_bytes k) byte s in omega arith)
-  same_http_tail a b c rest t u small (inl (h, e, p, r, n)) (inr (inr (bytes, f, s, m))) = absurd (let l = length-behind rest bytes 10 s in omega arith)
-  same_http_tail a b c rest t u small (inr (inl (h, byte, e, p, r, n, other))) (inl (k, f, q, s, m)) = absurd (let l = length-behind rest (held_bytes h) byte r in omega arith)
-  same_http_tail a b c rest t u small (inr (inl (h, byte, e, p, r, n, other))) (inr (inl (k, byte', f, q, s, m, other'))) =
-      let d = same_last rest (held_bytes h) (held_bytes k) byte byte' r s (sym n ∙ m) in
-      e ∙ ap (λ x. NoLf a b x byte) (same_held h k p q (omega arith) d.0) ∙ ap (NoLf a b k) d.1 ∙ sym f
-  same_http_tail a b c rest t u small (inr (inl (h, byte, e, p, r, n, other))) (inr (inr (bytes, f, s, m))) = absurd (other (same_last rest (held_bytes h) bytes byte 10 r s (sym n ∙ m)).1)
-  same_http_tail a b c rest t u small (inr (inr (bytes, e, r, n))) (inl (k, f, q, s, m)) = absurd (let l = length-behind rest bytes 10 r in omega arith)
-  same_http_tail a b c rest t u small (inr (inr (bytes, e, r, n))) (inr (inl (k, byte, f, q, s, m, other))) = absurd (other (same_last rest (held_bytes k) bytes byte 10 s r (sym m ∙ n)).1)
-  same_http_tail a b c rest t u small (inr (inr (bytes, e, r, n))) (inr (inr (bytes', f, s, m))) =
-      e ∙ ap (UnbuiltBytes a b) (same_last rest bytes bytes' 10 10 r s (sym n ∙ m)).0 ∙ sym f
+same_open_tail : (part : List ℕ) (t u : Tail) → IsTailOf (Open part) t → IsTailOf (Open part) u → t ≡ u
+same_open_tail part t u (inl p) (inl q) = p.0 ∙ sym q.0
+same_open_tail part t u (inl p) (inr q) = absurd (omega (arith, p.1, q.1))
+same_open_tail part t u (inr p) (inl q) = absurd (omega (arith, p.1, q.1))
+same_open_tail part t u (inr p) (inr q) = p.0 ∙ sym q.0
 
-  same_open_tail : (part : List ℕ) (t u : Tail) → IsTailOf (Open part) t → IsTailOf (Open part) u → t ≡ u
-  same_open_tail part t u (inl p) (inl q) = p.0 ∙ sym q.0
-  same_open_tail part t u (inl p) (inr q) = absurd (omega (arith, p.1, q.1))
-  same_open_tail part t u (inr p) (inl q) = absurd (omega (arith, p.1, q.1))
-  same_open_tail part t u (inr p) (inr q) = p.0 ∙ sym q.0
+same_tail_of : (f : Front) (t u : Tail) → IsTailOf f t → IsTailOf f u → t ≡ u
+same_tail_of (Said (Http a b c) rest) t u p q = same_http_tail a b c rest t u p q
+same_tail_of (Said (Step drive moment) rest) t u p q = p ∙ sym q
+same_tail_of (Said End rest) t u p q = p ∙ sym q
+same_tail_of (Unsaid line) t u p q = p ∙ sym q
+same_tail_of (Open part) t u p q = same_open_tail part t u p q
 
-  same_tail_of : (f : Front) (t u : Tail) → IsTailOf f t → IsTailOf f u → t ≡ u
-  same_tail_of (Said (Http a b c) rest) t u p q = same_http_tail a b c rest t u (omega (arith, p.0)) p.1 q.1
-  same_tail_of (Said (Step drive moment) rest) t u p q = p ∙ sym q
-  same_tail_of (Said End rest) t u p q = p ∙ sym q
-  same_tail_of (Unsaid line) t u p q = p ∙ sym q
-  same_tail_of (Open part) t u p q = same_open_tail part t u p q
-
-  -- no tail begins with a whole record
-  tail_is_record : (t : Tail) (f : Event) (r : List ℕ) → IsTail site t → IsEvent site f → tail_bytes site t ≡ spelling f ++ r → ⊥
-  tail_is_record t f r h k e =
-      let line = ap (λ x. x ++ []) e ∙ append-nil (spelling f ++ r) ∙ spelled f r in
-      let a = below_event site t f [] r h k (against site t [] (line_of_event f) (behind_line f r) h (is_line site f k) line) in
-      omega (arith, a.1, ap length e, length-append (spelling f) r)
+-- no tail begins with a whole record
+tail_is_record : (site : Site) (t : Tail) (f : Feed) (r : List ℕ) → IsTail site t → IsRecord f → tail_bytes site t ≡ spelling f ++ r → ⊥
+tail_is_record site t f r h k e =
+    let line = ap (λ x. x ++ []) e ∙ append-nil (spelling f ++ r) ∙ spelled f r in
+    let a = below_record site t f [] r h k (against site t [] (line_of_record f) (behind_line f r) h k line) in
+    omega (arith, a.1, ap length e, length-append (spelling f) r)
 
 -- ---- whole records and a tail
 
@@ -192,15 +172,15 @@ module _ (site : Site) (valid : IsWellFormed site) where
   same_tail : (t u : Tail) → IsTail site t → IsTail site u → tail_bytes site t ≡ tail_bytes site u → t ≡ u
   same_tail t u h k e =
       let same = same_front_of site valid (front_of t) (front_of u) (is_front site t h) (is_front site u k) (sym (fronted site t) ∙ e ∙ fronted site u) in
-      same_tail_of site (front_of u) t u (subst (λ f. IsTailOf site f t) same (is_tail site t h)) (is_tail site u k)
+      same_tail_of (front_of u) t u (subst (λ f. IsTailOf f t) same (is_tail site t h)) (is_tail site u k)
 
-  same_reading : (es fs : List Event) (t u : Tail) → AllByRecursion (IsEvent site) es → AllByRecursion (IsEvent site) fs → IsTail site t → IsTail site u
+  same_reading : (es fs : List Feed) (t u : Tail) → AllByRecursion IsRecord es → AllByRecursion IsRecord fs → IsTail site t → IsTail site u
       → whole_bytes es ++ tail_bytes site t ≡ whole_bytes fs ++ tail_bytes site u → (es ≡ fs) × (t ≡ u)
   same_reading [] [] t u p q h k e = (refl, same_tail t u h k e)
   same_reading [] (f ∷ fs) t u p q h k e = absurd (tail_is_record site t f (whole_bytes fs ++ tail_bytes site u) h q.0 (e ∙ append_assoc (spelling f) (whole_bytes fs) (tail_bytes site u)))
   same_reading (x ∷ es) [] t u p q h k e = absurd (tail_is_record site u x (whole_bytes es ++ tail_bytes site t) k p.0 (sym e ∙ append_assoc (spelling x) (whole_bytes es) (tail_bytes site t)))
   same_reading (x ∷ es) (f ∷ fs) t u p q h k e =
-      let g = same_record site x f (whole_bytes es ++ tail_bytes site t) (whole_bytes fs ++ tail_bytes site u) p.0 q.0
+      let g = same_record x f (whole_bytes es ++ tail_bytes site t) (whole_bytes fs ++ tail_bytes site u) p.0 q.0
       (sym (append_assoc (spelling x) (whole_bytes es) (tail_bytes site t)) ∙ e ∙ append_assoc (spelling f) (whole_bytes fs) (tail_bytes site u)) in
       let r = same_reading es fs t u p.1 q.1 h k g.1 in
       (ap (λ y. y ∷ es) g.0 ∙ ap (λ l. f ∷ l) r.0, r.1)

@@ -1,16 +1,14 @@
--- The texts of the lines that are built: they hold no LF, are short, and differ. And the texts of messages: they differ too.
-use Rattle.std.proofs.Common.{◌≡◌, ◌≢◌, ℕ, ◌<◌, ◌≤◌, ◌^◌, List, [], ◌∷◌, ◌++◌, length, codes, refl, ap, ◌∙◌, arith, length-append}
+-- The texts of the lines that are built: they hold no LF, are short, and differ.
+use Rattle.std.proofs.Common.{◌≡◌, ◌≢◌, ℕ, ◌≤◌, List, [], ◌∷◌, ◌++◌, length, codes, refl, ap, ◌∙◌, arith, length-append}
 use Rattle.std.specs.Fmt.{decimal}
 use Rattle.std.proofs.lemmas.Fmt.{decimal_injective, length-decimal-le}
 use Rattle.std.proofs.lemmas.List.{append_cancel_left}
 use Rattle.cta_site.specs.declared.site.Site.{Site}
-use Rattle.replay.specs.Bytes.{Without, then_byte}
+use Rattle.replay.specs.Bytes.{Without}
 use Rattle.replay.specs.Line.{text, http_text, http_words, then_word, IsHttp}
-use Rattle.replay.specs.Message.{Message, PutFile, AskInfo, IsMessage, message_text, with_body, info_body}
 use Rattle.replay.specs.declared.line.Line.{Line}
 use Rattle.replay.specs.declared.line.Line.TheVariants.{Http, Step, End}
 use Rattle.replay.proofs.Parts.{same_words, Without-append, Without-decimal}
-use Rattle.replay.proofs.Messages.{Without-path, same_body}
 
 -- ---- lines
 
@@ -102,32 +100,3 @@ same_front (c ∷ a) (d ∷ b) x y n e =
     let p = same_front a b x y (omega arith) tails in
     let front : a ≡ b = p.0 in
     (cc, p.1)
-
--- ---- messages
-
-length-body : (body : List ℕ) → length body ≤ length (with_body body)
-length-body body =
-    let rest = then_byte 13 (decimal (length body)) (codes "\n\r\n" ++ body) in
-    omega (arith, length-append (codes "HTTP/1.1\r\nHost: t\r\nContent-Length: ") rest, length-append (decimal (length body)) (13 ∷ (codes "\n\r\n" ++ body)))
-
--- bodies of texts that are not too long
-same_sent : (x y : List ℕ) → length (with_body x) < 2 ^ 64 → with_body x ≡ with_body y → x ≡ y
-same_sent x y small e = let m = length-body x in let n = length-body y in let both = ap length e in same_body x y (omega arith) (omega arith) e
-
-pub same_message : (n : ℕ) (m m' : Message) → IsMessage n m → IsMessage n m' → length (message_text m) < 2 ^ 64 → message_text m ≡ message_text m' → m ≡ m'
-same_message n (PutFile path body) (PutFile path' body') h h' small e =
-    let rest = append_cancel_left (codes "PUT /data") (then_byte 32 path (with_body body)) (then_byte 32 path' (with_body body')) e in
-    let p = same_words 32 path path' (with_body body) (with_body body') (Without-path 32 path (omega arith) h.0) (Without-path 32 path' (omega arith) h'.0) rest in
-    let fits : length (with_body body) < 2 ^ 64 = omega (arith, length-append path (32 ∷ with_body body)) in
-    ap (λ x. PutFile x body) p.0 ∙ ap (PutFile path') (same_sent body body' fits p.1)
-same_message n (PutFile path body) (AskInfo path') h h' small e =
-    absurd (apart 85 79 _ _ (λ f. omega arith) (same_rest 80 80 _ _ e))
-same_message n (AskInfo path) (PutFile path' body') h h' small e =
-    absurd (apart 79 85 _ _ (λ f. omega arith) (same_rest 80 80 _ _ e))
-same_message n (AskInfo path) (AskInfo path') h h' small e =
-    let sent = append_cancel_left (codes "POST /api/v1/archiveinfo ") (with_body (info_body path)) (with_body (info_body path')) e in
-    let fits : length (with_body (info_body path)) < 2 ^ 64 = omega (arith, length-append (codes "POST /api/v1/archiveinfo ") (with_body (info_body path))) in
-    let bodies = same_sent (info_body path) (info_body path') fits sent in
-    let named = append_cancel_left (codes "{\"paths\":[\"") (then_byte 34 path (codes "]}")) (then_byte 34 path' (codes "]}")) bodies in
-    let p = same_words 34 path path' (codes "]}") (codes "]}") (Without-path 34 path (omega arith) h) (Without-path 34 path' (omega arith) h') named in
-    ap AskInfo p.0

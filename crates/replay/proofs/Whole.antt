@@ -5,7 +5,7 @@ use Rattle.outside.specs.Causes.{Rose}
 use Rattle.cta_site.specs.Faults.{first_fault}
 use Rattle.cta_site.specs.Numbering.{IsNumberedFrom}
 use Rattle.cta_site.specs.declared.site.Site.{Site}
-use Rattle.replay.specs.Outcome.{ReachesEnd, IsReadWhole}
+use Rattle.replay.specs.Outcome.{IsReadWhole}
 use Rattle.replay.specs.SiteFile.{IsSiteOf, NoSite, site_fault}
 use Rattle.replay.specs.Top.{Handed, Runs, RunsWhole}
 use Rattle.replay.specs.declared.status.Status.{Status}
@@ -41,12 +41,13 @@ by_site ListenFault file left left' f f' e kept calm h = absurd h
 by_site (NotBuilt offset) file left left' f f' e kept calm h = absurd h
 
 pub RunsWhole-from_runs : ((file a b : Site) → first_fault file ≡ None → IsNumberedFrom file a → IsNumberedFrom file b → a ≡ b) → (status : Status) (words : List (List ℕ)) (a b : Handed) → Runs status words a b → RunsWhole status words a b
-RunsWhole-from_runs one status words a b (inl p) = λ bytes site events rest form told is reaches no_site no_read no_write. absurd (p.0 form)
-RunsWhole-from_runs one status words a b (inr (form', inl p)) = λ bytes site events rest form told is reaches no_site no_read no_write.
+RunsWhole-from_runs one status words a b (inl (inl p, same)) = λ bytes site feeds rest form told is reaches no_site no_read no_write. absurd (p.0 form)
+RunsWhole-from_runs one status words a b (inl (inr wanted, same)) = λ bytes site feeds rest form told is reaches no_site no_read no_write. inr wanted
+RunsWhole-from_runs one status words a b (inr (form', inl p)) = λ bytes site feeds rest form told is reaches no_site no_read no_write.
     inr (by_site status bytes a.site_left b.site_left a.site_faults b.site_faults told is.kept no_site p.0)
-RunsWhole-from_runs one status words a b (inr (form', inr (site', reads, replays))) = λ bytes site events rest form told is reaches no_site no_read no_write.
+RunsWhole-from_runs one status words a b (inr (form', inr (site', reads, replays))) = λ bytes site feeds rest form told is reaches no_site no_read no_write.
     let s = taken_site bytes reads.0 a.site_left b.site_left told reads.1 in
     let is' = subst (λ x. IsSiteOf x site') (s.1 reads.2) reads.3 in
     let same = one_site bytes site' site one is' is in
-    subst (λ x. ReachesEnd x a.left events rest → ((status ≡ Ok) × IsReadWhole x events rest b.left a.written b.written) ⊎ (status ≡ NoMemory)) same
-    (λ r. Completes-from_replays status site' a.left b.left a.read_faults b.read_faults a.written b.written a.write_faults b.write_faults replays events rest r no_read no_write) reaches
+    subst (λ x. ((status ≡ Ok) × IsReadWhole x feeds rest b.left a.written b.written) ⊎ (status ≡ NoMemory)) same
+    (Completes-from_replays status site' a.left b.left a.read_faults b.read_faults a.written b.written a.write_faults b.write_faults replays feeds rest reaches no_read no_write)

@@ -8,8 +8,6 @@ use Rattle.replay.specs.declared.intake.Stop.{Stop}
 use Rattle.replay.specs.declared.intake.Stop.TheVariants.{End, Fault, Full, Memory}
 use Rattle.replay.specs.declared.intake.LineEnd.{LineEnd}
 use Rattle.replay.specs.declared.intake.LineEnd.TheVariants.{Whole, Long, Stopped}
-use Rattle.replay.specs.declared.intake.BytesEnd.{BytesEnd}
-use Rattle.replay.specs.declared.intake.BytesEnd.TheVariants.{All, Part}
 
 -- the most bytes of a script that are taken
 abbrev pub budget : ℕ
@@ -42,8 +40,3 @@ TookLine (Stopped why) left left' count count' faults faults' buf =
 -- a piece was taken into the front of buf
 abbrev pub TookPiece : Option (List ℕ) → Option (List ℕ) → ℕ → ℕ → Result ℕ Stop → List ℕ → Type 0
 TookPiece left left' before now r buf = MatchResult r (λ n. Took left left' before now (take n buf) × (0 < n) × (n ≤ length buf)) (λ _. Took left left' before now [])
-
--- so many bytes were taken, or fewer and why
-abbrev pub TookBytes : BytesEnd → Option (List ℕ) → Option (List ℕ) → ℕ → ℕ → ℕ → ℕ → ℕ → List ℕ → Type 0
-TookBytes All left left' before now faults faults' len bs = Took left left' before now bs × (length bs ≡ len)
-TookBytes (Part why) left left' before now faults faults' len bs = Took left left' before now bs × (length bs ≤ len) × HasStopped why left' now faults faults'

@@ -1,12 +1,10 @@
 pub mod Bytes
 pub mod Words
 pub mod Line
-pub mod Message
 pub mod Script
-pub mod Reply
 pub mod Output
 pub mod Intake
 pub mod Outcome
 pub mod SiteFile
 pub mod Top
-pub mod Examples
+pub mod Laws

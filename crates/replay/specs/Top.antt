@@ -3,7 +3,7 @@ use Rattle.std.specs.Prelude.{◌≡◌, ℕ, ◌⊎◌, List, Option, Some}
 use Rattle.outside.specs.Causes.{Rose}
 use Rattle.cta_site.specs.declared.site.Site.{Site}
 use Rattle.replay.specs.Words.{IsReplayForm}
-use Rattle.replay.specs.Script.{Event}
+use Rattle.links.specs.Run.{Feed}
 use Rattle.replay.specs.Outcome.{Replays, ReachesEnd, IsReadWhole}
 use Rattle.replay.specs.SiteFile.{IsSiteOf, NoSite, ReadsSite}
 use Rattle.replay.specs.declared.status.Status.{Status}
@@ -26,9 +26,9 @@ handed site_left site_faults left read_faults written write_faults = record { si
 abbrev pub IsUntouched : Handed → Handed → Type 0
 IsUntouched a b = (b.left ≡ a.left) × (b.read_faults ≡ a.read_faults) × (b.written ≡ a.written) × (b.write_faults ≡ a.write_faults)
 
--- the words are of another form, and nothing was touched
+-- the words are of another form, or memory was wanted to read them, and nothing was touched
 abbrev pub EndsAtWords : Status → List (List ℕ) → Handed → Handed → Type 0
-EndsAtWords status words a b = ¬ (IsReplayForm words) × (status ≡ Usage) × (b ≡ a)
+EndsAtWords status words a b = ((¬ (IsReplayForm words) × (status ≡ Usage)) ⊎ (status ≡ NoMemory)) × (b ≡ a)
 
 -- no site was read, and the script and the output were not touched
 abbrev pub EndsAtSite : Status → Handed → Handed → Type 0
@@ -46,6 +46,6 @@ Runs status words a b = EndsAtWords status words a b ⊎ (IsReplayForm words × 
 -- written, or memory is wanted
 abbrev pub RunsWhole : Status → List (List ℕ) → Handed → Handed → Type 0
 RunsWhole status words a b =
-    (bytes : List ℕ) (site : Site) (events : List Event) (rest : List ℕ) → IsReplayForm words → a.site_left ≡ Some bytes → IsSiteOf bytes site → ReachesEnd site a.left events rest
+    (bytes : List ℕ) (site : Site) (feeds : List Feed) (rest : List ℕ) → IsReplayForm words → a.site_left ≡ Some bytes → IsSiteOf bytes site → ReachesEnd a.left feeds rest
     → ¬ (Rose a.site_faults b.site_faults) → ¬ (Rose a.read_faults b.read_faults) → ¬ (Rose a.write_faults b.write_faults)
-    → ((status ≡ Ok) × IsReadWhole site events rest b.left a.written b.written) ⊎ (status ≡ NoMemory)
+    → ((status ≡ Ok) × IsReadWhole site feeds rest b.left a.written b.written) ⊎ (status ≡ NoMemory)

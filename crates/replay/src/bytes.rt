@@ -1,15 +1,7 @@
 // Parts of byte strings.
-ghost use Rattle.std.specs.Prelude.{◌≡◌, ◌≢◌, ◌++◌, ◌≤◌, ℕ, List, MatchOption, IsTrue, ◌↔◌};
+ghost use Rattle.std.specs.Prelude.{◌≡◌, ◌≢◌, ◌≤◌, ℕ, MatchOption, IsTrue, ◌↔◌};
 ghost use Rattle.std.specs.Fmt.{decimal};
 ghost use Rattle.replay.specs.Bytes.{Without, IsPlain, then_byte};
-
-// What stands behind a front.
-pub fn behind<'a>(bytes: &'a [u8], front: &[u8]) -> Option<&'a [u8]>
-    ensures { MatchOption result ((rest : List ℕ) → bytes.now ≢ front.now ++ rest)
-        (λ rest. bytes.now ≡ front.now ++ rest.now) }
-{
-    bytes.strip_prefix(front)
-}
 
 // The part before the first such byte, and what stands behind that byte.
 pub fn first_part(bytes: &[u8], end: u8) -> Option<(&[u8], &[u8])>

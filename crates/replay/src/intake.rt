@@ -1,6 +1,6 @@
-// Bytes, lines and the bytes of records, taken from a script.
-ghost use Rattle.std.specs.Prelude.{◌≡◌, ◌≤◌, ◌<◌, ◌+◌, ◌++◌, [], IfErr, length, vec_len, vec_capacity};
-ghost use Rattle.replay.specs.Intake.{budget, Took, HasStopped, TookByte, TookLine, TookPiece, TookBytes};
+// Bytes, lines and pieces, taken from a script.
+ghost use Rattle.std.specs.Prelude.{◌≡◌, ◌≤◌, ◌<◌, ◌+◌, IfErr, length};
+ghost use Rattle.replay.specs.Intake.{budget, HasStopped, TookByte, TookLine, TookPiece};
 
 use outside::{Failed, Source};
 
@@ -9,9 +9,6 @@ pub const BUDGET: u64 = 4_294_967_296;
 
 /// The most bytes of a line before its LF.
 pub const LINE: usize = 256;
-
-// The most bytes that are taken at a time.
-const PIECE: usize = 4096;
 
 /// Why no further byte was taken.
 #[derive(Clone, Copy, Debug, PartialEq, Eq)]
@@ -22,7 +19,7 @@ pub enum Stop {
     Fault,
     /// As many bytes were taken as may be.
     Full,
-    /// There was no room for it.
+    /// There is no room for it.
     Memory,
 }
 
@@ -35,15 +32,6 @@ pub enum LineEnd {
     Long,
     /// It was not ended.
     Stopped(Stop),
-}
-
-/// How the reading of a record's bytes ended.
-#[derive(Clone, Copy, Debug, PartialEq, Eq)]
-pub enum BytesEnd {
-    /// All were taken.
-    All,
-    /// Only some were.
-    Part(Stop),
 }
 
 // The next byte of the script.
@@ -114,49 +102,4 @@ pub fn take_piece<S: Source>(
         }
         Err(Failed) => Err(Stop::Fault),
     }
-}
-
-// Adds a piece, for which room is left.
-fn add(bytes: &mut Vec<u8>, piece: &[u8])
-    requires { vec_len bytes.old + length piece.now ≤ vec_capacity bytes.old }
-    ensures { bytes.new.items ≡ bytes.old.items ++ piece.now }
-{
-    match bytes.extend_from_slice(piece) {
-        Ok(()) => {}
-        Err(_) => unreachable!(),
-    }
-}
-
-// So many bytes of the script, put into `bytes`. Room is made before a byte is taken, so that what was taken is there.
-pub fn take_bytes<S: Source>(
-    script: &mut S,
-    taken: &mut u64,
-    len: u32,
-    bytes: &mut Vec<u8>,
-) -> BytesEnd
-    requires within { taken.old ≤ budget }
-    requires empty { bytes.old.items ≡ [] }
-    ensures took { TookBytes result (S.left script.old) (S.left script.new) taken.old taken.new
-        (S.faults script.old) (S.faults script.new) len bytes.new.items }
-    ensures later { S.faults script.old ≤ S.faults script.new }
-    ensures within { taken.new ≤ budget }
-{
-    let mut piece = [0u8; PIECE];
-    let wanted = len as usize;
-    while bytes.len() < wanted {
-        if *taken == BUDGET {
-            return BytesEnd::Part(Stop::Full);
-        }
-        let most = (wanted - bytes.len())
-            .min(PIECE)
-            .min((BUDGET - *taken) as usize);
-        if bytes.reserve(most).is_err() {
-            return BytesEnd::Part(Stop::Memory);
-        }
-        match take_piece(script, taken, &mut piece[..most]) {
-            Ok(count) => add(bytes, &piece[..count]),
-            Err(why) => return BytesEnd::Part(why),
-        }
-    }
-    BytesEnd::All
 }

@@ -1,21 +1,26 @@
-// What is written for an event.
-ghost use Rattle.std.specs.Prelude.{◌≡◌, ◌≤◌, IfOk, OnOk, string_bytes, codes, [], ◌∷◌, ◌++◌};
+// What is written for the events of a link.
+ghost use Rattle.std.specs.Prelude.{◌≡◌, ◌≤◌, MatchResult, IfOk, OnOk, string_bytes, codes, ◌++◌};
 ghost use Rattle.std.specs.Fmt.{decimal};
-ghost use Rattle.replay.specs.Message.{IsMessage, said};
+ghost use Rattle.std.specs.Io.KnownBytes.{Appends};
+ghost use Rattle.outside.specs.Causes.{Rose};
+ghost use Rattle.outside.specs.Streams.{AppendsFront};
 ghost use Rattle.cta_model.specs.Legal.{greatest_moment};
-ghost use Rattle.replay.specs.Output.{frame, joined, next, after, frames_at, output_from};
-ghost use Rattle.replay.specs.Outcome.{Answered, FedBytes};
-ghost use Rattle.replay.specs.Script.{Feed};
+ghost use Rattle.wire_http.specs.Reply.{reply_text, refusal_reply};
+ghost use Rattle.conn.specs.Stands.{next_events, given_by, request_view};
+ghost use Rattle.links.specs.Replies.{frame, after};
+ghost use Rattle.replay.specs.Output.{by_archive, request_reply, request_keeps};
+ghost use Rattle.replay.specs.Outcome.{Answered, Framed, told_on};
+ghost use Rattle.replay.specs.declared.output.Unwritten.TheVariants.{Broken};
 
-use crate::answering::answer_of;
-use crate::message::{MessageRef, message_of};
-use crate::reply::{write, write_reply};
+use crate::requests::answer_request;
 use archive::Archive;
+use conn::{WireRefusal, refusal_reply, write_reply};
 use cta_model::NoMemory;
+use links::{Next, Request};
 use outside::Sink;
 use std::alloc::Global;
 
-/// Why frames were not written.
+/// Why not all replies were written.
 #[derive(Clone, Copy, Debug, PartialEq, Eq)]
 pub enum Unwritten {
     /// The sink failed.
@@ -34,40 +39,33 @@ fn line_before(alloc: Global, link: u32, len: usize) -> Result<String, NoMemory>
     }
 }
 
-// A reply on a link.
-#[tactic(auto, unfolding(crate::specs::Output::frame))]
-fn frame_of(alloc: Global, link: u32, reply: &[u8]) -> Result<Vec<u8>, NoMemory>
-    ensures { IfOk result (λ v. v.items ≡ frame link reply.now) }
+// Adds bytes at the end.
+fn add(out: &mut Vec<u8>, bytes: &[u8]) -> Result<(), NoMemory>
+    ensures { OnOk result (out.new.items ≡ out.old.items ++ bytes.now) }
 {
-    let line = line_before(alloc, link, reply.len())?;
-    let mut frame = Vec::new(alloc);
-    write(&mut frame, line.as_bytes())?;
-    write(&mut frame, reply)?;
-    write(&mut frame, b"\n")?;
-    Ok(frame)
+    match out.extend_from_slice(bytes) {
+        Ok(()) => Ok(()),
+        Err(_) => Err(NoMemory),
+    }
 }
 
-// The frame of the answer to a message.
-fn answer_frame(
-    alloc: Global,
-    archive: &mut Archive,
-    link: u32,
-    moment: u64,
-    message: MessageRef<'_>,
-) -> Result<Vec<u8>, NoMemory>
-    requires moment { moment ≤ greatest_moment }
-    requires message { IsMessage archive.old.site.limits.file (said message) }
-    ensures frame { IfOk result (λ v. v.items ≡ joined (frames_at archive.old (Feed link moment (said message.entry)))) }
-    ensures kept { OnOk result (archive.new ≡ next archive.old (Feed link moment (said message.entry))) }
+// The frame of a reply on a link.
+#[tactic(auto, unfolding(links::specs::Replies::frame))]
+fn frame_of(alloc: Global, link: u32, text: &[u8]) -> Result<Vec<u8>, NoMemory>
+    ensures { IfOk result (λ v. v.items ≡ frame (record { link = link; text = text.now })) }
 {
-    let answer = answer_of(alloc, archive, moment, message)?;
-    let reply = write_reply(alloc, &answer)?;
-    frame_of(alloc, link, &reply)
+    let line = line_before(alloc, link, text.len())?;
+    let mut frame = Vec::new(alloc);
+    add(&mut frame, line.as_bytes())?;
+    add(&mut frame, text)?;
+    add(&mut frame, b"\n")?;
+    Ok(frame)
 }
 
 // Writes bytes.
 fn put<K: Sink>(out: &mut K, bytes: &[u8]) -> Result<(), Unwritten>
-    ensures answered { Answered result (K.written out.old) (K.written out.new) (K.faults out.old) (K.faults out.new) bytes.now }
+    ensures put { MatchResult result (λ _. Appends (K.written out.old) (K.written out.new) bytes.now)
+        (λ why. (why ≡ Broken) × AppendsFront (K.written out.old) (K.written out.new) bytes.now × Rose (K.faults out.old) (K.faults out.new)) }
     ensures later { K.faults out.old ≤ K.faults out.new }
 {
     match out.write_all_of(bytes) {
@@ -76,47 +74,109 @@ fn put<K: Sink>(out: &mut K, bytes: &[u8]) -> Result<(), Unwritten>
     }
 }
 
-// Answers one message and writes the frame.
-fn answer_message<K: Sink>(
-    alloc: Global,
-    archive: &mut Archive,
-    out: &mut K,
-    link: u32,
-    moment: u64,
-    message: MessageRef<'_>,
-) -> Result<(), Unwritten>
-    requires moment { moment ≤ greatest_moment }
-    requires message { IsMessage archive.old.site.limits.file (said message) }
-    ensures answered { Answered result (K.written out.old) (K.written out.new) (K.faults out.old) (K.faults out.new)
-        (output_from archive.old (Feed link moment (said message.entry) ∷ [])) }
-    ensures kept { OnOk result (archive.new ≡ after archive.old (Feed link moment (said message.entry) ∷ [])) }
+// Writes the frame of a reply on a link.
+fn put_reply<K: Sink>(alloc: Global, out: &mut K, link: u32, text: &[u8]) -> Result<(), Unwritten>
+    ensures framed { Framed result (K.written out.old) (K.written out.new) (K.faults out.old) (K.faults out.new) (record { link = link; text = text.now }) }
     ensures later { K.faults out.old ≤ K.faults out.new }
 {
-    match answer_frame(alloc, archive, link, moment, message) {
+    match frame_of(alloc, link, text) {
         Ok(frame) => put(out, &frame),
         Err(_) => Err(Unwritten::Wanting),
     }
 }
 
-/// Answers the bytes of a record where they are one message of the archive's site, and says whether they are.
-pub fn answer_bytes<K: Sink>(
+// The text of the reply to bytes that were refused.
+fn refusal_text(alloc: Global, refusal: WireRefusal) -> Result<Vec<u8>, NoMemory>
+    ensures { IfOk result (λ text. text.items ≡ reply_text (refusal_reply refusal)) }
+{
+    let reply = refusal_reply(alloc, refusal)?;
+    write_reply(alloc, &reply)
+}
+
+// Writes the frame of the reply to bytes that were refused.
+fn refuse<K: Sink>(
+    alloc: Global,
+    out: &mut K,
+    link: u32,
+    refusal: WireRefusal,
+) -> Result<(), Unwritten>
+    ensures framed { Framed result (K.written out.old) (K.written out.new) (K.faults out.old) (K.faults out.new)
+        (record { link = link; text = reply_text (refusal_reply refusal) }) }
+    ensures later { K.faults out.old ≤ K.faults out.new }
+{
+    match refusal_text(alloc, refusal) {
+        Ok(text) => put_reply(alloc, out, link, &text),
+        Err(_) => Err(Unwritten::Wanting),
+    }
+}
+
+// Answers a request, and writes the frame of the reply.
+fn answer<K: Sink>(
     alloc: Global,
     archive: &mut Archive,
     out: &mut K,
     link: u32,
     moment: u64,
-    bytes: &[u8],
-) -> Result<bool, Unwritten>
+    request: Request,
+) -> Result<(), Unwritten>
     requires { moment ≤ greatest_moment }
-    ensures fed { FedBytes result archive.old archive.new link moment bytes.now (K.written out.old) (K.written out.new) (K.faults out.old) (K.faults out.new) }
+    ensures framed { Framed result (K.written out.old) (K.written out.new) (K.faults out.old) (K.faults out.new)
+        (record { link = link; text = request_reply archive.old moment (request_view request) }) }
+    ensures kept { OnOk result (archive.new ≡ request_keeps archive.old moment (request_view request)) }
     ensures later { K.faults out.old ≤ K.faults out.new }
 {
-    let limit = archive.site().limits().file;
-    match message_of(bytes, limit) {
-        Some(message) => match answer_message(alloc, archive, out, link, moment, message) {
-            Ok(()) => Ok(true),
-            Err(why) => Err(why),
-        },
-        None => Ok(false),
+    match answer_request(alloc, archive, moment, request) {
+        Ok(text) => put_reply(alloc, out, link, &text),
+        Err(_) => Err(Unwritten::Wanting),
     }
+}
+
+// Answers an event of a link, and writes the frame of the reply.
+fn answer_event<K: Sink>(
+    alloc: Global,
+    archive: &mut Archive,
+    out: &mut K,
+    link: u32,
+    moment: u64,
+    event: Next,
+) -> Result<(), Unwritten>
+    requires { moment ≤ greatest_moment }
+    ensures answered { Answered result archive.old (K.written out.old) (K.written out.new) (K.faults out.old) (K.faults out.new)
+        (told_on link moment (next_events event)) }
+    ensures kept { OnOk result (archive.new ≡ after by_archive archive.old (told_on link moment (next_events event))) }
+    ensures later { K.faults out.old ≤ K.faults out.new }
+{
+    match event {
+        Next::Need => Ok(()),
+        Next::Closed => Ok(()),
+        Next::Continue => put_reply(alloc, out, link, b"HTTP/1.1 100 Continue\r\n\r\n"),
+        Next::Refused(refusal) => refuse(alloc, out, link, refusal),
+        Next::Request(request) => answer(alloc, archive, out, link, moment, request),
+    }
+}
+
+/// Answers the events of a link in order, each at this moment on what those before it left, and writes the frame of each
+/// reply. An event is let go once it was answered.
+pub fn answer_events<K: Sink>(
+    alloc: Global,
+    archive: &mut Archive,
+    out: &mut K,
+    link: u32,
+    moment: u64,
+    mut events: Vec<Next>,
+) -> Result<(), Unwritten>
+    requires { moment ≤ greatest_moment }
+    ensures answered { Answered result archive.old (K.written out.old) (K.written out.new) (K.faults out.old) (K.faults out.new)
+        (told_on link moment (given_by events.items)) }
+    ensures kept { OnOk result (archive.new ≡ after by_archive archive.old (told_on link moment (given_by events.items))) }
+    ensures later { K.faults out.old ≤ K.faults out.new }
+{
+    // The first event is then the last of the list, from which it is taken.
+    events.reverse();
+    'events: while let Some(event) = events.pop() {
+        if let Err(why) = answer_event(alloc, archive, out, link, moment, event) {
+            return Err(why);
+        }
+    }
+    Ok(())
 }

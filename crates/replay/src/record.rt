@@ -1,15 +1,19 @@
 // One record of a script, read and answered.
-ghost use Rattle.std.specs.Prelude.{◌≡◌, ◌≤◌, ◌+◌, length};
+ghost use Rattle.std.specs.Prelude.{◌≡◌, ◌≤◌, ◌<◌, List, length};
+ghost use Rattle.links.specs.Run.{Turn};
+ghost use Rattle.links.specs.Standing.{StandFor};
 ghost use Rattle.replay.specs.Intake.{budget};
 ghost use Rattle.replay.specs.Line.{http_text, IsHttp};
 ghost use Rattle.replay.specs.Script.{ended};
-ghost use Rattle.replay.specs.Outcome.{world, Turns, TurnsAfter, TookLf, TookNoRecord, status_of, unwritten_status};
+ghost use Rattle.replay.specs.Outcome.{world, Turns, TurnsAfter, TookLf, status_of, unwritten_status};
 
-use crate::intake::{BytesEnd, LINE, LineEnd, Stop, take_byte, take_bytes, take_line};
+use crate::feeding::{FeedEnd, feed_record};
+use crate::intake::{LINE, LineEnd, Stop, take_byte, take_line};
 use crate::line::{Line, line_of};
-use crate::output::{Unwritten, answer_bytes};
+use crate::output::Unwritten;
 use crate::status::Status;
 use archive::Archive;
+use links::Links;
 use outside::{Sink, Source};
 use std::alloc::Global;
 
@@ -25,7 +29,7 @@ fn stopped(why: Stop, taken: u64) -> Status
     }
 }
 
-// The status for frames that were not written.
+// The status where replies were not written.
 fn unwritten(why: Unwritten) -> Status
     ensures { result ≡ unwritten_status why }
 {
@@ -50,64 +54,53 @@ fn last_lf<S: Source>(script: &mut S, taken: &mut u64) -> Option<Status>
     }
 }
 
-// The end of a record, begun at `start`, whose bytes are no message.
-fn no_message<S: Source>(script: &mut S, taken: &mut u64, start: u64) -> Status
-    requires { taken.old ≤ budget }
-    ensures lf { TookNoRecord result start (S.left script.old) (S.left script.new) taken.old taken.new (S.faults script.old) (S.faults script.new) }
-    ensures later { S.faults script.old ≤ S.faults script.new }
-    ensures within { taken.new ≤ budget }
-{
-    match last_lf(script, taken) {
-        None => Status::NotBuilt { offset: start },
-        Some(status) => status,
-    }
-}
-
-// An `http` record, begun at `start`, behind its line.
+// An `http` record behind its line.
 fn http_record<S: Source, K: Sink>(
     alloc: Global,
     archive: &mut Archive,
+    links: &mut Links,
     script: &mut S,
     taken: &mut u64,
     out: &mut K,
-    start: u64,
+    buffer: &mut [u8],
     link: u32,
     moment: u64,
     len: u32,
 ) -> Option<Status>
     requires http { IsHttp link moment len }
-    requires begun { taken.old ≡ start + length (ended (http_text link moment len)) }
+    requires begun { length (ended (http_text link moment len)) ≤ taken.old }
     requires within { taken.old ≤ budget }
-    ensures turns { TurnsAfter result archive.old archive.new (ended (http_text link moment len))
+    requires buffer { 0 < length buffer.old }
+    ensures turns { (before : List Turn) → StandFor links.old archive.old.site.limits.file before
+        → TurnsAfter result links.new archive.old archive.new before (ended (http_text link moment len))
         (world (S.left script.old) taken.old (S.faults script.old) (K.written out.old) (K.faults out.old))
         (world (S.left script.new) taken.new (S.faults script.new) (K.written out.new) (K.faults out.new)) }
     ensures later { (S.faults script.old ≤ S.faults script.new) × (K.faults out.old ≤ K.faults out.new) }
     ensures within { taken.new ≤ budget }
 {
-    let mut bytes = Vec::new(alloc);
-    match take_bytes(script, taken, len, &mut bytes) {
-        BytesEnd::Part(why) => match answer_bytes(alloc, archive, out, link, moment, &bytes) {
-            Ok(_) => Some(stopped(why, *taken)),
-            Err(why) => Some(unwritten(why)),
-        },
-        BytesEnd::All => match answer_bytes(alloc, archive, out, link, moment, &bytes) {
-            Ok(true) => last_lf(script, taken),
-            Ok(false) => Some(no_message(script, taken, start)),
-            Err(why) => Some(unwritten(why)),
-        },
+    match feed_record(
+        alloc, archive, links, script, taken, out, buffer, link, moment, len,
+    ) {
+        FeedEnd::All => last_lf(script, taken),
+        FeedEnd::Part(why) => Some(stopped(why, *taken)),
+        FeedEnd::Unanswered(why) => Some(unwritten(why)),
     }
 }
 
-/// Reads one record and answers it, or ends the script.
+/// Reads one record and answers what it completes, or ends the script. `buffer` is room for a piece of a record's bytes.
 pub fn one_record<S: Source, K: Sink>(
     alloc: Global,
     archive: &mut Archive,
+    links: &mut Links,
     script: &mut S,
     taken: &mut u64,
     out: &mut K,
+    buffer: &mut [u8],
 ) -> Option<Status>
-    requires { taken.old ≤ budget }
-    ensures turns { Turns result archive.old archive.new
+    requires within { taken.old ≤ budget }
+    requires buffer { 0 < length buffer.old }
+    ensures turns { (before : List Turn) → StandFor links.old archive.old.site.limits.file before
+        → Turns result links.new archive.old archive.new before
         (world (S.left script.old) taken.old (S.faults script.old) (K.written out.old) (K.faults out.old))
         (world (S.left script.new) taken.new (S.faults script.new) (K.written out.new) (K.faults out.new)) }
     ensures later { (S.faults script.old ≤ S.faults script.new) × (K.faults out.old ≤ K.faults out.new) }
@@ -122,9 +115,9 @@ pub fn one_record<S: Source, K: Sink>(
             None => Some(Status::Script { offset: start }),
             Some(Line::End) => Some(Status::Ok),
             Some(Line::Step { .. }) => Some(Status::NotBuilt { offset: start }),
-            Some(Line::Http { link, moment, len }) => {
-                http_record(alloc, archive, script, taken, out, start, link, moment, len)
-            }
+            Some(Line::Http { link, moment, len }) => http_record(
+                alloc, archive, links, script, taken, out, buffer, link, moment, len,
+            ),
         },
     }
 }

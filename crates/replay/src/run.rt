@@ -1,16 +1,44 @@
 // A whole script, record by record.
-ghost use Rattle.std.specs.Prelude.{◌≡◌};
-ghost use Rattle.cta_site.specs.declared.site.Site.{Site};
+ghost use Rattle.std.specs.Prelude.{◌≡◌, ◌<◌, [], length};
+ghost use Rattle.links.specs.Standing.{LinksStand};
 ghost use Rattle.replay.specs.Output.{fresh};
 ghost use Rattle.replay.specs.Outcome.{Replays};
 
 use crate::record::one_record;
 use crate::status::Status;
 use archive::Archive;
+use links::Links;
 use outside::{Sink, Source};
 use std::alloc::Global;
 
-/// Reads a script up to its end, and writes what an archive that has kept nothing yet answers.
+// The most bytes of a record that are taken at a time.
+const PIECE: usize = 16_384;
+
+// Reads a script up to its end, and writes what an archive and links that have kept nothing yet answer.
+fn run_records<S: Source, K: Sink>(
+    alloc: Global,
+    archive: &mut Archive,
+    links: &mut Links,
+    script: &mut S,
+    out: &mut K,
+    buffer: &mut [u8],
+) -> Status
+    requires archive { archive.old ≡ fresh archive.old.site }
+    requires links { LinksStand links.old archive.old.site.limits.file (λ link. []) (λ link. []) }
+    requires buffer { 0 < length buffer.old }
+    ensures { Replays result archive.old.site (S.left script.old) (S.left script.new) (S.faults script.old) (S.faults script.new)
+        (K.written out.old) (K.written out.new) (K.faults out.old) (K.faults out.new) }
+{
+    let mut taken = 0;
+    'records: loop {
+        if let Some(status) = one_record(alloc, archive, links, script, &mut taken, out, buffer) {
+            return status;
+        }
+    }
+}
+
+/// Reads a script up to its end, and writes what an archive that has kept nothing yet answers on links of which nothing was
+/// read.
 pub fn run_script<S: Source, K: Sink>(
     alloc: Global,
     archive: &mut Archive,
@@ -21,10 +49,12 @@ pub fn run_script<S: Source, K: Sink>(
     ensures { Replays result archive.old.site (S.left script.old) (S.left script.new) (S.faults script.old) (S.faults script.new)
         (K.written out.old) (K.written out.new) (K.faults out.old) (K.faults out.new) }
 {
-    let mut taken = 0;
-    'records: loop {
-        if let Some(status) = one_record(alloc, archive, script, &mut taken, out) {
-            return status;
-        }
-    }
+    let Ok(mut links) = Links::new(alloc, archive.site().limits().file) else {
+        return Status::NoMemory;
+    };
+    let mut buffer = match vec![in alloc; 0u8; PIECE] {
+        Ok(buffer) => buffer,
+        Err(_) => return Status::NoMemory,
+    };
+    run_records(alloc, archive, &mut links, script, out, &mut buffer)
 }

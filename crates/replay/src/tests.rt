@@ -122,9 +122,9 @@ fn rows(rt: HostRuntime) -> Result<(), Fail> {
         ends(
             &rt,
             LIMITS,
-            &[b"http 0 100 5\nhello\n"],
-            b"end\n",
-            Status::NotBuilt { offset: 0 },
+            &[b"http 0 100 5\nhello\nend\n"],
+            b"",
+            Status::Ok,
             &[]
         )?
     );
@@ -165,6 +165,8 @@ fn refusals(rt: HostRuntime) -> Result<(), Fail> {
             &[STORED, taken, STORED, full]
         )?
     );
+    let too_large =
+        b"reply 0 131\nHTTP/1.1 413 Payload Too Large\r\nContent-Type: application/json\r\nContent-Length: 26\r\nConnection: close\r\n\r\n{\"error\":\"body too large\"}\n".as_slice();
     let d =
         b"http 0 100 66\nPUT /data/atlas/d HTTP/1.1\r\nHost: t\r\nContent-Length: 8\r\n\r\n12345678\n".as_slice();
     let e =
@@ -183,10 +185,10 @@ fn refusals(rt: HostRuntime) -> Result<(), Fail> {
         ends(
             &rt,
             b"10,\"file\":7,\"history\":1000",
-            &[d, b""],
-            b"end\n",
-            Status::NotBuilt { offset: 0 },
-            &[]
+            &[d, b"end\n"],
+            b"",
+            Status::Ok,
+            &[too_large]
         )?
     );
     assert!(rt;

@@ -39,7 +39,10 @@ fn replay_site<A: Source, S: Source, K: Sink>(
         (handed (A.left site_bytes.old) (A.faults site_bytes.old) (S.left script.old) (S.faults script.old) (K.written out.old) (K.faults out.old))
         (handed (A.left site_bytes.new) (A.faults site_bytes.new) (S.left script.new) (S.faults script.new) (K.written out.new) (K.faults out.new)) }
 {
-    if !is_replay_form(words) {
+    let Ok(is_form) = is_replay_form(alloc, words) else {
+        return Status::NoMemory;
+    };
+    if !is_form {
         return Status::Usage;
     }
     match read_archive(alloc, site_bytes) {
@@ -53,9 +56,12 @@ fn replay_site<A: Source, S: Source, K: Sink>(
 /// `words` are the words of the command line behind the program's name; their one form is `replay` and a word that is
 /// not empty and begins with no `-`. `site_bytes` gives the site file, of at most 16,777,216 bytes, and `script` the
 /// script. A script is a list of records up to the line `end`, whose bytes after its LF are not read. The record `http
-/// LINK MOMENT LENGTH` LF, LENGTH bytes, LF gives its bytes to the link LINK (0 to 1,023) at the MOMENT (seconds since
-/// 1970, up to 253,402,300,799); they are one whole PUT of a file under `/data` or one whole archiveinfo. `out` takes
-/// for each reply the line `reply LINK LENGTH`, the LENGTH bytes of the reply and LF.
+/// LINK MOMENT LENGTH` LF, LENGTH bytes, LF gives its bytes to the connection of the link LINK (0 to 1,023) at the MOMENT
+/// (seconds since 1970, up to 253,402,300,799), as they come: a request may be cut over records, and a record may complete
+/// several. Each 100 Continue, refusal and request that its bytes complete (RFC 9112, in the profile of `conn`) is answered
+/// at once, in order: a request is routed by the route table of `tape_routes` and asked of an archive of the site. A refusal
+/// and a closing request end their link, whose later bytes are dropped. `out` takes for each reply the line `reply LINK
+/// LENGTH`, the LENGTH bytes of the reply and LF.
 ///
 /// The statuses are looked at in the order in which the work meets them: words, site file, then the script record by
 /// record.
@@ -64,7 +70,7 @@ fn replay_site<A: Source, S: Source, K: Sink>(
 /// - `Site`: the site file breaks this rule, of the thirty rules of a site file the first, and first at this item of its
 ///   list (0 where the rule speaks of no element). The script is untouched and nothing was written.
 /// - `NotBuilt`: at this offset, in bytes of the script from 0, begins the first whole record that is a `step` of a drive
-///   of the site, or whose bytes are neither message. All replies before it were written.
+///   of the site. All replies before it were written.
 /// - `Script`: at this offset no record begins or goes on, or the script ended there, in a record or before `end`. A
 ///   record that is cut has fed what it held. All replies were written.
 /// - `ReadFault`: the count of faults of the site file's source rose in this call, the script is untouched and nothing
@@ -73,8 +79,10 @@ fn replay_site<A: Source, S: Source, K: Sink>(
 /// - `NoMemory`: memory was wanted. Whole replies were written, from the first on.
 /// - `TooLong`: 2^32 bytes of the script were taken without `end`. All replies were written.
 ///
-/// `ListenFault` is not answered. It always returns. Its memory is that of the longest record and the
-/// archive; its time that of the archive's asks and looks beside the bytes.
+/// `ListenFault` is not answered. It always returns. The replies are those to the bytes that were taken: of a record's
+/// bytes no more than 16,384 are taken at a time, and none before there is room for them. Its memory is that of the archive, of
+/// the links and of one body on each link; its time that of the archive's asks and looks beside the bytes, each of which is
+/// moved and hashed once.
 pub fn replay_top<A: Source, S: Source, K: Sink>(
     alloc: Global,
     words: &[String],

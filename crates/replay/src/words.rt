@@ -1,23 +1,20 @@
 // The words of the command line.
-ghost use Rattle.std.specs.Prelude.{IsTrue, ◌↔◌, map, string_bytes};
-ghost use Rattle.replay.specs.Words.{IsReplayForm, IsPlainWord};
+ghost use Rattle.std.specs.Prelude.{IsTrue, ◌↔◌, IfOk, map, string_bytes};
+ghost use Rattle.replay.specs.Words.{IsReplayForm};
 
-// That a word is not empty and begins with no `-`.
-fn is_plain_word(word: &[u8]) -> bool
-    ensures { IsTrue result ↔ IsPlainWord word.now }
-{
-    match word {
-        [] => false,
-        [first, ..] => *first != b'-',
-    }
-}
+use cta_model::NoMemory;
+use cta_words::{Form, WordsError, read_words};
+use std::alloc::Global;
 
-/// That the words are `replay SITE`.
-pub fn is_replay_form(words: &[String]) -> bool
-    ensures { IsTrue result ↔ IsReplayForm (map string_bytes words.now) }
+/// Whether the words are `replay SITE`.
+pub fn is_replay_form(alloc: Global, words: &[String]) -> Result<bool, NoMemory>
+    ensures { IfOk result (λ is_form. IsTrue is_form ↔ IsReplayForm (map string_bytes words.now)) }
 {
-    match words {
-        [word, site] => word.as_str() == "replay" && is_plain_word(site.as_bytes()),
-        _ => false,
+    match read_words(alloc, words) {
+        Ok(Form::Replay { .. }) => Ok(true),
+        Ok(Form::Serve { .. }) => Ok(false),
+        Ok(Form::Mill { .. }) => Ok(false),
+        Err(WordsError::Usage) => Ok(false),
+        Err(WordsError::NoMemory) => Err(NoMemory),
     }
 }

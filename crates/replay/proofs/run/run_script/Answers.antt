@@ -1,19 +1,15 @@
-use Rattle.std.proofs.Common.{arith}
-use Rattle.replay.proofs.Running.{Ran-more, Ran-ends_fresh}
+use Rattle.std.proofs.Common.{◌≡◌, [], ap, ◌∙◌, subst}
+use Rattle.links.specs.Standing.{LinksStand}
+use Rattle.replay.proofs.Running.{wanted_first}
 use Rattle.replay.proofs.run.run_script.Goals as goal
 
-pub returns-in-Some : goal.returns-in-Some
-returns-in-Some g c =
-    let h = c.records.invariant in
-    (c.one_record.new.taken, omega arith, Ran-ends_fresh c.args.archive.now c.records.archive _ _ _ c.in-Some.status c.requires h.ran h.reads h.writes c.in-Some.ensures.turns)
+pub returns-in_default : goal.returns-in_default
+returns-in_default g c = wanted_first c.args.archive.now.site (g.S.Source.left c.args.script.now) (g.S.Source.faults c.args.script.now) (g.K.Sink.written c.args.out.now) (g.K.Sink.faults c.args.out.now)
 
-pub records-preserved : goal.records-preserved
-records-preserved g c =
-    let h = c.records.invariant in
-    let turns = c.in_default.ensures.turns in
-    record {
-      ran = Ran-more c.args.archive.now c.records.archive _ _ _ _ h.ran turns;
-      reads = omega arith;
-      writes = omega arith;
-      within = omega arith;
-    }
+pub returns-in-Err : goal.returns-in-Err
+returns-in-Err g c = wanted_first c.args.archive.now.site (g.S.Source.left c.args.script.now) (g.S.Source.faults c.args.script.now) (g.K.Sink.written c.args.out.now) (g.K.Sink.faults c.args.out.now)
+
+pub run_records-requires-clause-links : goal.run_records-requires-clause-links
+run_records-requires-clause-links g c =
+    let limit : c.limits.result.file ≡ c.args.archive.now.site.limits.file = ap (λ l. l.file) c.limits.ensures.value ∙ ap (λ s. s.limits.file) c.site.ensures in
+    subst (λ n. LinksStand c.in-Ok.links n (λ link. []) (λ link. [])) limit c.in-Ok.ensures

@@ -1,5 +1,5 @@
-use Rattle.std.proofs.Common.{subst, inl, ◌+◌, ◌≤◌, length, arith}
-use Rattle.replay.specs.SiteFile.{ArchiveMade, site_limit}
+use Rattle.std.proofs.Common.{subst, inl, arith}
+use Rattle.replay.specs.SiteFile.{ArchiveMade}
 use Rattle.replay.proofs.Sites.{site_read, too_long}
 use Rattle.replay.proofs.site.read_archive.Goals as goal
 

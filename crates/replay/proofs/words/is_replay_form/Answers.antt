@@ -1,16 +1,14 @@
-use Rattle.std.proofs.Common.{◌≡◌, ◌∷◌, [], List, length, get_or, string_bytes, codes, sym, ◌∙◌, arith}
-use Rattle.std.proofs.lemmas.Slice.Eq.{bytes_eq-Decides}
+use Rattle.replay.proofs.Forms.{replay_spelled, longer_spelled, none_spelled}
 use Rattle.replay.proofs.words.is_replay_form.Goals as goal
 
-two_items : {X : Type 0} (ws : List X) (a b : X) → length ws ≡ 2 → a ≡ get_or ws 0 a → b ≡ get_or ws 1 b → ws ≡ a ∷ b ∷ []
-two_items [] a b n p q = absurd (omega arith)
-two_items (x ∷ []) a b n p q = absurd (omega arith)
-two_items (x ∷ y ∷ []) a b n p q = cc
-two_items (x ∷ y ∷ z ∷ ws) a b n p q = absurd (omega arith)
+pub returns-in-Ok-Replay : goal.returns-in-Ok-Replay
+returns-in-Ok-Replay c = replay_spelled _ c.in-Ok-Replay.field-0-0 (rw c.in-Ok-Replay.field-0-is at c.in-Ok-Replay.ensures)
 
-pub returns-then-eq : goal.returns-then-eq
-returns-then-eq c =
-    let e = two_items c.args.words.now c.word-item.result c.site-item.result (omega arith) c.word-item.is c.site-item.is in
-    let name : string_bytes c.word-item.result ≡ codes "replay" = sym c.as_str.ensures.value ∙ (bytes_eq-Decides c.as_str.result.now (codes "replay")).0 (sym c.if-eq.ensures) in
-    let plain = rw c.as_bytes.ensures.value at c.is_plain_word.ensures in
-    rw e (λ t. (name, plain.0 t), λ p. plain.1 p.1)
+pub returns-in-Ok-Serve : goal.returns-in-Ok-Serve
+returns-in-Ok-Serve c = longer_spelled _ _ _ _ _ (rw c.in-Ok-Serve.field-0-is at c.in-Ok-Serve.ensures).0
+
+pub returns-in-Ok-Mill : goal.returns-in-Ok-Mill
+returns-in-Ok-Mill c = longer_spelled _ _ _ _ _ (rw c.in-Ok-Mill.field-0-is at c.in-Ok-Mill.ensures).0
+
+pub returns-in-Err-Usage : goal.returns-in-Err-Usage
+returns-in-Err-Usage c = none_spelled _ (rw c.in-Err-Usage.field-0-is at c.in-Err-Usage.ensures)

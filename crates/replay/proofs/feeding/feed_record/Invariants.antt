@@ -1,0 +1,21 @@
+use Rattle.std.proofs.Common.{◌≤◌, List}
+use Rattle.links.specs.Run.{Turn}
+use Rattle.links.specs.Standing.{StandFor}
+use Rattle.replay.specs.Intake.{budget}
+use Rattle.replay.specs.Outcome.{world}
+use Rattle.replay.proofs.Delivering.{Going}
+use Rattle.replay.proofs.feeding.feed_record.Given as goal
+
+abbrev pub invariant-loop-wanted : goal.invariant-loop-wanted
+invariant-loop-wanted g l = record {
+  going : (before : List Turn) → StandFor l.initial.links l.initial.archive.site.limits.file before
+      → Going l.links l.initial.archive l.archive before l.link l.moment l.wanted l.len
+      (world (g.S.Source.left l.initial.script) l.initial.taken (g.S.Source.faults l.initial.script) (g.K.Sink.written l.initial.out) (g.K.Sink.faults l.initial.out))
+      (world (g.S.Source.left l.script) l.taken (g.S.Source.faults l.script) (g.K.Sink.written l.out) (g.K.Sink.faults l.out));
+  reads : g.S.Source.faults l.initial.script ≤ g.S.Source.faults l.script;
+  writes : g.K.Sink.faults l.initial.out ≤ g.K.Sink.faults l.out;
+  within : l.taken ≤ budget;
+}
+
+abbrev pub decreases-loop-wanted : goal.decreases-loop-wanted
+decreases-loop-wanted g l = l.wanted

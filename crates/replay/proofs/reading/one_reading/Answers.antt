@@ -1,5 +1,0 @@
-use Rattle.replay.proofs.OneReading.{one_cut}
-use Rattle.replay.proofs.reading.one_reading.Goals as goal
-
-pub returns : goal.returns
-returns c = λ site valid. one_cut site (c.valid_is_well_formed.ensures site valid)
