@@ -10,7 +10,7 @@ ghost use Rattle.replay.specs.Outcome.{Feeds, Delivers, turn_with, world};
 
 use crate::intake::{BUDGET, Stop, take_piece};
 use crate::output::{Unwritten, answer_events};
-use archive::Archive;
+use crate::service::Service;
 use links::{Links, begins_empty};
 use outside::{Sink, Source};
 use std::alloc::Global;
@@ -29,7 +29,7 @@ pub enum FeedEnd {
 // Feeds a piece to a link, behind the bytes of its record that were fed before, and answers all events that it completes.
 fn feed_piece<K: Sink>(
     alloc: Global,
-    archive: &mut Archive,
+    service: &mut Service,
     links: &mut Links,
     out: &mut K,
     link: u32,
@@ -40,12 +40,12 @@ fn feed_piece<K: Sink>(
     requires moment { moment ≤ greatest_moment }
     requires room { HasRoomOn links.old link (length piece.now) }
     ensures feeds { (limit : ℕ) (before : List Turn) (bytes : List ℕ) (events : List Event) → StandFor links.old limit (before ++ turn_with link moment bytes events ∷ [])
-        → Feeds result links.new limit archive.old archive.new before link moment (bytes ++ piece.now) events
+        → Feeds result links.new limit service.old.archive service.new.archive before link moment (bytes ++ piece.now) events
         (K.written out.old) (K.written out.new) (K.faults out.old) (K.faults out.new) }
     ensures later { K.faults out.old ≤ K.faults out.new }
 {
     match links.turn(alloc, link, piece) {
-        Ok(events) => answer_events(alloc, archive, out, link, moment, events),
+        Ok(events) => answer_events(alloc, service, out, link, moment, events),
         Err(_) => Err(Unwritten::Wanting),
     }
 }
@@ -54,7 +54,7 @@ fn feed_piece<K: Sink>(
 /// record's moment. Room is made before a byte is taken, so that what was taken can be fed. `buffer` is room for a piece.
 pub fn feed_record<S: Source, K: Sink>(
     alloc: Global,
-    archive: &mut Archive,
+    service: &mut Service,
     links: &mut Links,
     script: &mut S,
     taken: &mut u64,
@@ -67,8 +67,8 @@ pub fn feed_record<S: Source, K: Sink>(
     requires http { IsHttp link moment len }
     requires within { taken.old ≤ budget }
     requires buffer { 0 < length buffer.old }
-    ensures delivers { (before : List Turn) → StandFor links.old archive.old.site.limits.file before
-        → Delivers result links.new archive.old archive.new before link moment len
+    ensures delivers { (before : List Turn) → StandFor links.old service.old.archive.site.limits.file before
+        → Delivers result links.new service.old.archive service.new.archive before link moment len
         (world (S.left script.old) taken.old (S.faults script.old) (K.written out.old) (K.faults out.old))
         (world (S.left script.new) taken.new (S.faults script.new) (K.written out.new) (K.faults out.new)) }
     ensures later { (S.faults script.old ≤ S.faults script.new) × (K.faults out.old ≤ K.faults out.new) }
@@ -88,7 +88,7 @@ pub fn feed_record<S: Source, K: Sink>(
             Ok(count) => count,
             Err(why) => return FeedEnd::Part(why),
         };
-        if let Err(why) = feed_piece(alloc, archive, links, out, link, moment, &buffer[..count]) {
+        if let Err(why) = feed_piece(alloc, service, links, out, link, moment, &buffer[..count]) {
             return FeedEnd::Unanswered(why);
         }
         wanted -= count;

@@ -11,8 +11,8 @@ mod laws;
 mod line;
 mod output;
 mod record;
-mod requests;
 mod run;
+mod service;
 mod site;
 mod status;
 #[cfg(test)]

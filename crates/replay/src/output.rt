@@ -12,8 +12,7 @@ ghost use Rattle.replay.specs.Output.{by_archive, request_reply, request_keeps};
 ghost use Rattle.replay.specs.Outcome.{Answered, Framed, told_on};
 ghost use Rattle.replay.specs.declared.output.Unwritten.TheVariants.{Broken};
 
-use crate::requests::answer_request;
-use archive::Archive;
+use crate::service::Service;
 use conn::{WireRefusal, refusal_reply, write_reply};
 use cta_model::NoMemory;
 use links::{Next, Request};
@@ -113,7 +112,7 @@ fn refuse<K: Sink>(
 // Answers a request, and writes the frame of the reply.
 fn answer<K: Sink>(
     alloc: Global,
-    archive: &mut Archive,
+    service: &mut Service,
     out: &mut K,
     link: u32,
     moment: u64,
@@ -121,11 +120,11 @@ fn answer<K: Sink>(
 ) -> Result<(), Unwritten>
     requires { moment ≤ greatest_moment }
     ensures framed { Framed result (K.written out.old) (K.written out.new) (K.faults out.old) (K.faults out.new)
-        (record { link = link; text = request_reply archive.old moment (request_view request) }) }
-    ensures kept { OnOk result (archive.new ≡ request_keeps archive.old moment (request_view request)) }
+        (record { link = link; text = request_reply service.old.archive moment (request_view request) }) }
+    ensures kept { OnOk result (service.new.archive ≡ request_keeps service.old.archive moment (request_view request)) }
     ensures later { K.faults out.old ≤ K.faults out.new }
 {
-    match answer_request(alloc, archive, moment, request) {
+    match service.answer(alloc, moment, request) {
         Ok(text) => put_reply(alloc, out, link, &text),
         Err(_) => Err(Unwritten::Wanting),
     }
@@ -134,16 +133,16 @@ fn answer<K: Sink>(
 // Answers an event of a link, and writes the frame of the reply.
 fn answer_event<K: Sink>(
     alloc: Global,
-    archive: &mut Archive,
+    service: &mut Service,
     out: &mut K,
     link: u32,
     moment: u64,
     event: Next,
 ) -> Result<(), Unwritten>
     requires { moment ≤ greatest_moment }
-    ensures answered { Answered result archive.old (K.written out.old) (K.written out.new) (K.faults out.old) (K.faults out.new)
+    ensures answered { Answered result service.old.archive (K.written out.old) (K.written out.new) (K.faults out.old) (K.faults out.new)
         (told_on link moment (next_events event)) }
-    ensures kept { OnOk result (archive.new ≡ after by_archive archive.old (told_on link moment (next_events event))) }
+    ensures kept { OnOk result (service.new.archive ≡ after by_archive service.old.archive (told_on link moment (next_events event))) }
     ensures later { K.faults out.old ≤ K.faults out.new }
 {
     match event {
@@ -151,7 +150,7 @@ fn answer_event<K: Sink>(
         Next::Closed => Ok(()),
         Next::Continue => put_reply(alloc, out, link, b"HTTP/1.1 100 Continue\r\n\r\n"),
         Next::Refused(refusal) => refuse(alloc, out, link, refusal),
-        Next::Request(request) => answer(alloc, archive, out, link, moment, request),
+        Next::Request(request) => answer(alloc, service, out, link, moment, request),
     }
 }
 
@@ -159,22 +158,22 @@ fn answer_event<K: Sink>(
 /// reply. An event is let go once it was answered.
 pub fn answer_events<K: Sink>(
     alloc: Global,
-    archive: &mut Archive,
+    service: &mut Service,
     out: &mut K,
     link: u32,
     moment: u64,
     mut events: Vec<Next>,
 ) -> Result<(), Unwritten>
     requires { moment ≤ greatest_moment }
-    ensures answered { Answered result archive.old (K.written out.old) (K.written out.new) (K.faults out.old) (K.faults out.new)
+    ensures answered { Answered result service.old.archive (K.written out.old) (K.written out.new) (K.faults out.old) (K.faults out.new)
         (told_on link moment (given_by events.items)) }
-    ensures kept { OnOk result (archive.new ≡ after by_archive archive.old (told_on link moment (given_by events.items))) }
+    ensures kept { OnOk result (service.new.archive ≡ after by_archive service.old.archive (told_on link moment (given_by events.items))) }
     ensures later { K.faults out.old ≤ K.faults out.new }
 {
     // The first event is then the last of the list, from which it is taken.
     events.reverse();
     'events: while let Some(event) = events.pop() {
-        if let Err(why) = answer_event(alloc, archive, out, link, moment, event) {
+        if let Err(why) = answer_event(alloc, service, out, link, moment, event) {
             return Err(why);
         }
     }

@@ -11,8 +11,8 @@ use crate::feeding::{FeedEnd, feed_record};
 use crate::intake::{LINE, LineEnd, Stop, take_byte, take_line};
 use crate::line::{Line, line_of};
 use crate::output::Unwritten;
+use crate::service::Service;
 use crate::status::Status;
-use archive::Archive;
 use links::Links;
 use outside::{Sink, Source};
 use std::alloc::Global;
@@ -57,7 +57,7 @@ fn last_lf<S: Source>(script: &mut S, taken: &mut u64) -> Option<Status>
 // An `http` record behind its line.
 fn http_record<S: Source, K: Sink>(
     alloc: Global,
-    archive: &mut Archive,
+    service: &mut Service,
     links: &mut Links,
     script: &mut S,
     taken: &mut u64,
@@ -71,15 +71,15 @@ fn http_record<S: Source, K: Sink>(
     requires begun { length (ended (http_text link moment len)) ≤ taken.old }
     requires within { taken.old ≤ budget }
     requires buffer { 0 < length buffer.old }
-    ensures turns { (before : List Turn) → StandFor links.old archive.old.site.limits.file before
-        → TurnsAfter result links.new archive.old archive.new before (ended (http_text link moment len))
+    ensures turns { (before : List Turn) → StandFor links.old service.old.archive.site.limits.file before
+        → TurnsAfter result links.new service.old.archive service.new.archive before (ended (http_text link moment len))
         (world (S.left script.old) taken.old (S.faults script.old) (K.written out.old) (K.faults out.old))
         (world (S.left script.new) taken.new (S.faults script.new) (K.written out.new) (K.faults out.new)) }
     ensures later { (S.faults script.old ≤ S.faults script.new) × (K.faults out.old ≤ K.faults out.new) }
     ensures within { taken.new ≤ budget }
 {
     match feed_record(
-        alloc, archive, links, script, taken, out, buffer, link, moment, len,
+        alloc, service, links, script, taken, out, buffer, link, moment, len,
     ) {
         FeedEnd::All => last_lf(script, taken),
         FeedEnd::Part(why) => Some(stopped(why, *taken)),
@@ -90,7 +90,7 @@ fn http_record<S: Source, K: Sink>(
 /// Reads one record and answers what it completes, or ends the script. `buffer` is room for a piece of a record's bytes.
 pub fn one_record<S: Source, K: Sink>(
     alloc: Global,
-    archive: &mut Archive,
+    service: &mut Service,
     links: &mut Links,
     script: &mut S,
     taken: &mut u64,
@@ -99,8 +99,8 @@ pub fn one_record<S: Source, K: Sink>(
 ) -> Option<Status>
     requires within { taken.old ≤ budget }
     requires buffer { 0 < length buffer.old }
-    ensures turns { (before : List Turn) → StandFor links.old archive.old.site.limits.file before
-        → Turns result links.new archive.old archive.new before
+    ensures turns { (before : List Turn) → StandFor links.old service.old.archive.site.limits.file before
+        → Turns result links.new service.old.archive service.new.archive before
         (world (S.left script.old) taken.old (S.faults script.old) (K.written out.old) (K.faults out.old))
         (world (S.left script.new) taken.new (S.faults script.new) (K.written out.new) (K.faults out.new)) }
     ensures later { (S.faults script.old ≤ S.faults script.new) × (K.faults out.old ≤ K.faults out.new) }
@@ -111,12 +111,12 @@ pub fn one_record<S: Source, K: Sink>(
     match take_line(script, taken, &mut line) {
         LineEnd::Stopped(why) => Some(stopped(why, *taken)),
         LineEnd::Long => Some(Status::Script { offset: start }),
-        LineEnd::Whole(n) => match line_of(&line[..n], archive.site()) {
+        LineEnd::Whole(n) => match line_of(&line[..n], service.archive.site()) {
             None => Some(Status::Script { offset: start }),
             Some(Line::End) => Some(Status::Ok),
             Some(Line::Step { .. }) => Some(Status::NotBuilt { offset: start }),
             Some(Line::Http { link, moment, len }) => http_record(
-                alloc, archive, links, script, taken, out, buffer, link, moment, len,
+                alloc, service, links, script, taken, out, buffer, link, moment, len,
             ),
         },
     }

@@ -5,6 +5,7 @@ ghost use Rattle.replay.specs.Output.{fresh};
 ghost use Rattle.replay.specs.Top.{handed, Runs, RunsWhole};
 
 use crate::run::run_script;
+use crate::service::Service;
 use crate::site::read_archive;
 use crate::status::Status;
 use crate::words::is_replay_form;
@@ -16,7 +17,7 @@ use std::alloc::Global;
 // Runs a script for an archive that has kept nothing yet, and lets the archive go.
 fn run_archive<S: Source, K: Sink>(
     alloc: Global,
-    mut archive: Archive,
+    archive: Archive,
     script: &mut S,
     out: &mut K,
 ) -> Status
@@ -24,7 +25,10 @@ fn run_archive<S: Source, K: Sink>(
     ensures { Replays result archive.site (S.left script.old) (S.left script.new) (S.faults script.old) (S.faults script.new)
         (K.written out.old) (K.written out.new) (K.faults out.old) (K.faults out.new) }
 {
-    run_script(alloc, &mut archive, script, out)
+    match Service::new(alloc, archive) {
+        Ok(mut service) => run_script(alloc, &mut service, script, out),
+        Err(_) => Status::NoMemory,
+    }
 }
 
 // The run, with the clause that holds its outcome.
@@ -81,8 +85,8 @@ fn replay_site<A: Source, S: Source, K: Sink>(
 ///
 /// `ListenFault` is not answered. It always returns. The replies are those to the bytes that were taken: of a record's
 /// bytes no more than 16,384 are taken at a time, and none before there is room for them. Its memory is that of the archive, of
-/// the links and of one body on each link; its time that of the archive's asks and looks beside the bytes, each of which is
-/// moved and hashed once.
+/// the links and of one body on each link; its time that of the archive's asks and looks beside the bytes: one of a body is
+/// moved twice and hashed once, and one of a head, a chunk line or a trailer that isn't whole is read again at each piece.
 pub fn replay_top<A: Source, S: Source, K: Sink>(
     alloc: Global,
     words: &[String],

@@ -1,4 +1,5 @@
 pub mod Routes
+pub mod Router
 pub mod Parameters
 pub mod Fixed
 pub mod Asked

@@ -1,6 +1,9 @@
 -- The routes (WLCG Tape REST v1 for those under `/api/v1`; the others are this project's own).
 use Rattle.std.specs.Prelude.{ℕ, ◌∷◌, [], ◌++◌, List, Option, Some, None, is_some, option_and_then, if◌then◌else◌, ◌||◌, ◌&&◌, ◌==◌, ◌-◌, nat_le, slice_index, length, take, drop, find, codes, bytes_eq}
+use Rattle.std.specs.BTreeSet.{insert_key}
+use Rattle.std.specs.Cmp.Lexicographic.{slice_cmp}
 use Rattle.std.specs.List.{list_any}
+use Rattle.std.specs.Ordering.{nat_cmp}
 use Rattle.tape_routes.specs.declared.routes.Endpoint.{Endpoint}
 use Rattle.tape_routes.specs.declared.routes.Endpoint.TheVariants as at
 use Rattle.tape_routes.specs.declared.routes.Meaning.{Meaning}
@@ -17,7 +20,7 @@ pub record Method : Type 0 where
   pub name : List ℕ
   pub meaning : Meaning
 
--- a route has a pattern, and methods in byte order
+-- a route has a pattern and methods
 pub record Route : Type 0 where
   pub pattern : Pattern
   pub methods : List Method
@@ -105,12 +108,17 @@ meaning_in (m ∷ ms) name = if bytes_eq name m.name then Some m.meaning else me
 abbrev pub meaning_of : Endpoint → List ℕ → Option Meaning
 meaning_of e name = meaning_in (route_of e).methods name
 
--- the names of the methods, joined by a comma and a space
-abbrev pub joined : List Method → List ℕ
-joined [] = []
-joined (m ∷ []) = m.name
-joined (m ∷ n ∷ ms) = m.name ++ codes ", " ++ joined (n ∷ ms)
+-- the names of the methods, in byte order
+abbrev pub names_in_order : List Method → List (List ℕ)
+names_in_order [] = []
+names_in_order (m ∷ ms) = insert_key (slice_cmp nat_cmp) (names_in_order ms) m.name
 
--- the methods that an endpoint has, as `Allow` lists them
+-- names, joined by a comma and a space
+abbrev pub joined : List (List ℕ) → List ℕ
+joined [] = []
+joined (name ∷ []) = name
+joined (name ∷ other ∷ names) = name ++ codes ", " ++ joined (other ∷ names)
+
+-- the methods that an endpoint has, in byte order, as `Allow` lists them
 abbrev pub allowed_at : Endpoint → List ℕ
-allowed_at e = joined (route_of e).methods
+allowed_at e = joined (names_in_order (route_of e).methods)

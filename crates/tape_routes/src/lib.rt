@@ -10,6 +10,7 @@ mod parameters;
 mod refusals;
 mod replies;
 mod routed;
+mod router;
 mod routes;
 mod routing;
 mod statuses;
@@ -17,7 +18,7 @@ mod well_known;
 
 pub use replies::reply_of;
 pub use routed::Routed;
-pub use routing::route;
+pub use router::Routes;
 
 #[cfg(test)]
 mod tests;

@@ -1,6 +1,7 @@
 // The routes: which endpoint a target names, and what a method means there.
 ghost use Rattle.std.specs.Prelude.{◌≡◌, ◌∷◌, [], Some, option_copied};
-ghost use Rattle.tape_routes.specs.Routes.{Fixed, Named, Below, parameter_in, parameter_of, endpoint_of, meaning_in, meaning_of, allowed_at};
+ghost use Rattle.tape_routes.specs.Router.{IsTextOf};
+ghost use Rattle.tape_routes.specs.Routes.{Below, parameter_in, meaning_in, meaning_of, allowed_at};
 
 use cta_site::Text;
 
@@ -26,7 +27,7 @@ pub(crate) enum Endpoint {
     Queues,
 }
 
-const ENDPOINTS: [Endpoint; 17] = [
+pub(crate) const ENDPOINTS: [Endpoint; 17] = [
     Endpoint::WellKnown,
     Endpoint::Stage,
     Endpoint::StageRequest,
@@ -71,32 +72,8 @@ pub(crate) enum Meaning {
     Queues,
 }
 
-// The parameter of a target that is this text: an empty one.
-fn fixed<'a>(target: &'a [u8], text: &str) -> Option<&'a [u8]>
-    ensures { option_copied result ≡ parameter_in (Fixed text.now) target.now }
-{
-    if target == text.as_bytes() {
-        Some(&target[..0])
-    } else {
-        None
-    }
-}
-
-// The parameter of a target between these texts: one without a slash, not empty.
-fn named<'a>(target: &'a [u8], before: &str, after: &str) -> Option<&'a [u8]>
-    ensures { option_copied result ≡ parameter_in (Named before.now after.now) target.now }
-{
-    let rest = target.strip_prefix(before.as_bytes())?;
-    let name = rest.strip_suffix(after.as_bytes())?;
-    if name.is_empty() || name.contains(&b'/') {
-        None
-    } else {
-        Some(name)
-    }
-}
-
 // What goes on below this text in a target, with the slash.
-fn below<'a>(target: &'a [u8], text: &str) -> Option<&'a [u8]>
+pub(crate) fn below<'a>(target: &'a [u8], text: &str) -> Option<&'a [u8]>
     ensures { option_copied result ≡ parameter_in (Below text.now) target.now }
 {
     let rest = target.strip_prefix(text.as_bytes())?;
@@ -108,28 +85,29 @@ fn below<'a>(target: &'a [u8], text: &str) -> Option<&'a [u8]>
 }
 
 impl Endpoint {
-    // The parameter of a target that this endpoint's route has.
-    pub(crate) fn parameter(self, target: &[u8]) -> Option<&[u8]>
-        ensures { option_copied result ≡ parameter_of self target.now }
+    // The text of this endpoint's route, as a router reads it.
+    #[tactic(auto, unfolding(matchit::specs::Route::scan))]
+    pub(crate) fn text(self) -> &'static str
+        ensures { IsTextOf self result.now }
     {
         match self {
-            Endpoint::WellKnown => fixed(target, "/.well-known/wlcg-tape-rest-api"),
-            Endpoint::Stage => fixed(target, "/api/v1/stage"),
-            Endpoint::StageRequest => named(target, "/api/v1/stage/", ""),
-            Endpoint::StageCancel => named(target, "/api/v1/stage/", "/cancel"),
-            Endpoint::Release => named(target, "/api/v1/release/", ""),
-            Endpoint::ArchiveInfo => fixed(target, "/api/v1/archiveinfo"),
-            Endpoint::Data => below(target, "/data"),
-            Endpoint::DriveUp => named(target, "/admin/v1/drive/", "/up"),
-            Endpoint::DriveDown => named(target, "/admin/v1/drive/", "/down"),
-            Endpoint::Tape => named(target, "/admin/v1/tape/", ""),
-            Endpoint::TapeState => named(target, "/admin/v1/tape/", "/state"),
-            Endpoint::TapeReclaim => named(target, "/admin/v1/tape/", "/reclaim"),
-            Endpoint::Repack => fixed(target, "/admin/v1/repack"),
-            Endpoint::RepackRequest => named(target, "/admin/v1/repack/", ""),
-            Endpoint::Failed => fixed(target, "/admin/v1/failed"),
-            Endpoint::FailedRetry => fixed(target, "/admin/v1/failed/retry"),
-            Endpoint::Queues => fixed(target, "/admin/v1/queues"),
+            Endpoint::WellKnown => "/.well-known/wlcg-tape-rest-api",
+            Endpoint::Stage => "/api/v1/stage",
+            Endpoint::StageRequest => "/api/v1/stage/{id}",
+            Endpoint::StageCancel => "/api/v1/stage/{id}/cancel",
+            Endpoint::Release => "/api/v1/release/{id}",
+            Endpoint::ArchiveInfo => "/api/v1/archiveinfo",
+            Endpoint::Data => "/data/{*path}",
+            Endpoint::DriveUp => "/admin/v1/drive/{drive}/up",
+            Endpoint::DriveDown => "/admin/v1/drive/{drive}/down",
+            Endpoint::Tape => "/admin/v1/tape/{vid}",
+            Endpoint::TapeState => "/admin/v1/tape/{vid}/state",
+            Endpoint::TapeReclaim => "/admin/v1/tape/{vid}/reclaim",
+            Endpoint::Repack => "/admin/v1/repack",
+            Endpoint::RepackRequest => "/admin/v1/repack/{id}",
+            Endpoint::Failed => "/admin/v1/failed",
+            Endpoint::FailedRetry => "/admin/v1/failed/retry",
+            Endpoint::Queues => "/admin/v1/queues",
         }
     }
 
@@ -208,14 +186,4 @@ fn data_meaning(method: &Text) -> Option<Meaning>
     } else {
         only(method, "PUT", Meaning::Put)
     }
-}
-
-// The endpoint whose route has a target.
-pub(crate) fn endpoint_of(target: &[u8]) -> Option<Endpoint>
-    ensures { result ≡ endpoint_of target.now }
-{
-    ENDPOINTS
-        .iter()
-        .copied()
-        .find(|endpoint| endpoint.parameter(target).is_some())
 }

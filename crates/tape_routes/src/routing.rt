@@ -1,18 +1,17 @@
 // Requests to asks.
-ghost use Rattle.std.specs.Prelude.{◌≡◌, [], IfOk, unwrap_or};
-ghost use Rattle.percent_encoding.specs.Percent.{percent_decode};
-ghost use Rattle.tape_routes.specs.Routes.{meaning_of, parameter_of};
-ghost use Rattle.tape_routes.specs.Asked.{asked, asked_at, asked_by, routed_view};
+ghost use Rattle.std.specs.Prelude.{◌≡◌, IfOk};
+ghost use Rattle.tape_routes.specs.Asked.{asked, asked_by, routed_view};
 
 use crate::ids::request_number;
 use crate::parameters::{decoded, tape_number};
 use crate::refusals::{no_method, no_route};
 use crate::routed::Routed;
-use crate::routes::{Endpoint, Meaning, endpoint_of};
+use crate::router::Routes;
+use crate::routes::Meaning;
 use crate::{asks, bodiless};
 use conn::Request;
 use cta_model::Look;
-use cta_site::{NoMemory, Text, ValidSite};
+use cta_site::{NoMemory, ValidSite};
 use std::alloc::Global;
 
 // What a request asks whose method means this, with the parameter of its target.
@@ -49,52 +48,37 @@ fn asked_by(
     }
 }
 
-// The parameter of a target at an endpoint that it names, percent-decoded.
-fn parameter_of(alloc: Global, endpoint: Endpoint, target: &Text) -> Result<Vec<u8>, NoMemory>
-    ensures { IfOk result (λ parameter. parameter.items ≡ percent_decode (unwrap_or (parameter_of endpoint target.now) [])) }
-{
-    match endpoint.parameter(target.as_bytes()) {
-        Some(parameter) => decoded(alloc, parameter),
-        None => decoded(alloc, b""),
-    }
-}
-
-// What a request asks at an endpoint.
-fn asked_at(
-    alloc: Global,
-    site: &ValidSite,
-    request: Request,
-    endpoint: Endpoint,
-) -> Result<Routed, NoMemory>
-    ensures { IfOk result (λ routed. routed_view routed ≡ asked_at site.now request endpoint (meaning_of endpoint request.method)) }
-{
-    match endpoint.meaning(&request.method) {
-        Some(meaning) => {
-            let parameter = parameter_of(alloc, endpoint, &request.target)?;
-            asked_by(alloc, site, request, parameter.as_slice(), meaning)
+impl Routes {
+    /// What a request comes to on this site, by the route table of the WLCG Tape REST API v1 and of this project's own routes
+    /// for files and the administration. The target is matched before percent-decoding, with letter case; a parameter is
+    /// never empty. The table is in `specs/Routes.antt`.
+    ///
+    /// - A Put comes with its body, whose sum the ask has; no other ask brings a content. The body of a route that reads none
+    ///   is ignored. An id is read in every form of a UUID; one that is no request's is asked as 0, and the name of no drive
+    ///   or no tape as 2^32 - 1.
+    /// - 404 `no such route` comes exactly where no route has the target, and 405 `no such method` with `Allow` exactly where
+    ///   the route has not the method (RFC 9110, 15.5.6); to a HEAD both have no body (RFC 9110, 9.3.2).
+    /// - 400 `bad path` comes exactly where the rest of a `/data` target is no UTF-8 once it is percent-decoded (RFC 3986,
+    ///   2.1); `bad body`, `bad lifetime` and `empty list` come exactly where the body's reader says so.
+    ///
+    /// NoMemory drops the request. Its cost is the length of the target and, where a body is read or put, of the body.
+    pub fn route(
+        &self,
+        alloc: Global,
+        site: &ValidSite,
+        request: Request,
+    ) -> Result<Routed, NoMemory>
+        ensures { IfOk result (λ routed. routed_view routed ≡ asked site.now request) }
+    {
+        let Some((endpoint, parameter)) = self.find(request.target.as_str()) else {
+            return no_route(alloc, &request);
+        };
+        match endpoint.meaning(&request.method) {
+            Some(meaning) => {
+                let parameter = decoded(alloc, parameter)?;
+                asked_by(alloc, site, request, parameter.as_slice(), meaning)
+            }
+            None => no_method(alloc, &request, endpoint),
         }
-        None => no_method(alloc, &request, endpoint),
-    }
-}
-
-/// What a request comes to on this site, by the route table of the WLCG Tape REST API v1 and of this project's own routes for
-/// files and the administration. The target is matched before percent-decoding, with letter case; a parameter is never
-/// empty. The table is in `specs/Routes.antt`.
-///
-/// - A Put comes with its body, whose sum the ask has; no other ask brings a content. The body of a route that reads none is
-///   ignored. An id is read in every form of a UUID; one that is no request's is asked as 0, and the name of no drive or no
-///   tape as 2^32 - 1.
-/// - 404 `no such route` comes exactly where no route has the target, and 405 `no such method` with `Allow` exactly where the
-///   route has not the method (RFC 9110, 15.5.6); to a HEAD both have no body (RFC 9110, 9.3.2).
-/// - 400 `bad path` comes exactly where the rest of a `/data` target is no UTF-8 once it is percent-decoded (RFC 3986, 2.1);
-///   `bad body`, `bad lifetime` and `empty list` come exactly where the body's reader says so.
-///
-/// NoMemory drops the request. Its cost is the length of the target and, where a body is read or put, of the body.
-pub fn route(alloc: Global, site: &ValidSite, request: Request) -> Result<Routed, NoMemory>
-    ensures { IfOk result (λ routed. routed_view routed ≡ asked site.now request) }
-{
-    match endpoint_of(request.target.as_bytes()) {
-        Some(endpoint) => asked_at(alloc, site, request, endpoint),
-        None => no_route(alloc, &request),
     }
 }

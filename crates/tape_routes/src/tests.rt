@@ -2,7 +2,7 @@
 ghost use Rattle.std.specs.Prelude.{IsTrue};
 ghost use Rattle.tape_routes.specs.Replies.{is_for_callers, HasContent};
 
-use crate::{Routed, reply_of, route};
+use crate::{Routed, Routes, reply_of};
 use blob::Blob;
 use conn::Request;
 use cta_model::{Answer, Ask, Look, Refusal, Who};
@@ -19,6 +19,23 @@ const SITE: &str =
 fn site_of(alloc: Global) -> Option<ValidSite> {
     match read_site(alloc, SITE.as_bytes()) {
         Ok(site) => site.check(alloc).ok(),
+        Err(_) => None,
+    }
+}
+
+// The site with the route table.
+#[derive(Drop)]
+struct Front {
+    site: ValidSite,
+    routes: Routes,
+}
+
+fn front_of(alloc: Global) -> Option<Front> {
+    match Routes::new(alloc) {
+        Ok(routes) => Some(Front {
+            site: site_of(alloc)?,
+            routes,
+        }),
         Err(_) => None,
     }
 }
@@ -111,8 +128,8 @@ fn routed_word(routed: &Routed) -> (&'static str, u32, usize) {
     }
 }
 
-fn said(alloc: Global, site: &ValidSite, request: Request) -> (&'static str, u32, usize) {
-    match route(alloc, site, request) {
+fn said(alloc: Global, front: &Front, request: Request) -> (&'static str, u32, usize) {
+    match front.routes.route(alloc, &front.site, request) {
         Ok(routed) => routed_word(&routed),
         Err(_) => ("no memory", 0, 0),
     }
@@ -120,13 +137,13 @@ fn said(alloc: Global, site: &ValidSite, request: Request) -> (&'static str, u32
 
 fn word_of(
     alloc: Global,
-    site: &ValidSite,
+    front: &Front,
     method: &str,
     target: &str,
     body: &str,
 ) -> (&'static str, u32, usize) {
     match request_of(alloc, method, target, body) {
-        Ok(Some(request)) => said(alloc, site, request),
+        Ok(Some(request)) => said(alloc, front, request),
         _ => ("no memory", 0, 0),
     }
 }
@@ -314,9 +331,9 @@ const CORNERS: [Row; 40] = [
 ];
 
 // The first of these rows that is routed otherwise.
-fn first_wrong(alloc: Global, site: &ValidSite, rows: &[Row]) -> Option<&'static str> {
+fn first_wrong(alloc: Global, front: &Front, rows: &[Row]) -> Option<&'static str> {
     for (method, target, body, wanted) in rows {
-        if word_of(alloc, site, method, target, body) != *wanted {
+        if word_of(alloc, front, method, target, body) != *wanted {
             return Some(*target);
         }
     }
@@ -324,23 +341,23 @@ fn first_wrong(alloc: Global, site: &ValidSite, rows: &[Row]) -> Option<&'static
 }
 
 // The same, of both tables.
-fn first_wrong_of_all(alloc: Global, site: &ValidSite) -> Option<&'static str> {
-    match first_wrong(alloc, site, &ROUTES) {
+fn first_wrong_of_all(alloc: Global, front: &Front) -> Option<&'static str> {
+    match first_wrong(alloc, front, &ROUTES) {
         Some(target) => Some(target),
-        None => first_wrong(alloc, site, &CORNERS),
+        None => first_wrong(alloc, front, &CORNERS),
     }
 }
 
 // The same, on a site that is let go.
-fn wrong_route(alloc: Global, site: ValidSite) -> Option<&'static str> {
-    first_wrong_of_all(alloc, &site)
+fn wrong_route(alloc: Global, front: Front) -> Option<&'static str> {
+    first_wrong_of_all(alloc, &front)
 }
 
 #[test]
 fn routes(rt: HostRuntime) {
     let alloc = rt.alloc();
-    let site = site_of(alloc).expect(&rt, "a site");
-    assert_eq!(rt; wrong_route(alloc, site), None);
+    let front = front_of(alloc).expect(&rt, "a site and the routes");
+    assert_eq!(rt; wrong_route(alloc, front), None);
 }
 
 // The text of a reply.
@@ -349,16 +366,16 @@ fn reply_text(alloc: Global, reply: &Reply) -> Vec<u8> {
 }
 
 // The text of the reply to a request that asks nothing.
-fn known_text(alloc: Global, site: &ValidSite, request: Request) -> Vec<u8> {
-    match route(alloc, site, request) {
+fn known_text(alloc: Global, front: &Front, request: Request) -> Vec<u8> {
+    match front.routes.route(alloc, &front.site, request) {
         Ok(Routed::Reply(reply)) => reply_text(alloc, &reply),
         _ => Vec::new(alloc),
     }
 }
 
-fn refused_text(alloc: Global, site: &ValidSite, method: &str, target: &str) -> Vec<u8> {
+fn refused_text(alloc: Global, front: &Front, method: &str, target: &str) -> Vec<u8> {
     match request_of(alloc, method, target, "") {
-        Ok(Some(request)) => known_text(alloc, site, request),
+        Ok(Some(request)) => known_text(alloc, front, request),
         _ => Vec::new(alloc),
     }
 }
@@ -397,9 +414,9 @@ const FIXED: [(&str, &str, &str); 6] = [
 ];
 
 // The first target that is refused with another text.
-fn first_other(alloc: Global, site: &ValidSite) -> Option<&'static str> {
+fn first_other(alloc: Global, front: &Front) -> Option<&'static str> {
     for (method, target, wanted) in FIXED {
-        if refused_text(alloc, site, method, target).as_slice() != wanted.as_bytes() {
+        if refused_text(alloc, front, method, target).as_slice() != wanted.as_bytes() {
             return Some(target);
         }
     }
@@ -407,15 +424,15 @@ fn first_other(alloc: Global, site: &ValidSite) -> Option<&'static str> {
 }
 
 // The same, on a site that is let go.
-fn other_text(alloc: Global, site: ValidSite) -> Option<&'static str> {
-    first_other(alloc, &site)
+fn other_text(alloc: Global, front: Front) -> Option<&'static str> {
+    first_other(alloc, &front)
 }
 
 #[test]
 fn fixed_replies(rt: HostRuntime) {
     let alloc = rt.alloc();
-    let site = site_of(alloc).expect(&rt, "a site");
-    assert_eq!(rt; other_text(alloc, site), None);
+    let front = front_of(alloc).expect(&rt, "a site and the routes");
+    assert_eq!(rt; other_text(alloc, front), None);
 }
 
 // Whether an answer is replied to with this text.

@@ -3,3 +3,4 @@ pub mod Digits
 pub mod Heads
 pub mod Commas
 pub mod Queries
+pub mod Codes

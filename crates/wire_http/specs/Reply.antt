@@ -1,6 +1,7 @@
 -- The text of a reply (RFC 9112, 4 to 6), and the replies to bytes that are refused.
-use Rattle.std.specs.Prelude.{ℕ, Bool, true, false, List, [], ◌∷◌, ◌++◌, length, Option, Some, None, if◌then◌else◌, ◌==◌, codes, decimal}
+use Rattle.std.specs.Prelude.{ℕ, Bool, true, false, List, [], ◌∷◌, ◌++◌, length, Option, Some, None, unwrap_or, codes, decimal}
 use Rattle.std.specs.Arc.{arc_value}
+use Rattle.http.specs.StatusCode.{reason_phrase}
 use Rattle.httparse.specs.Ascii.{crlf_bytes}
 use Rattle.json.specs.Token.{Token, begin_object, end_object, key, string}
 use Rattle.json.specs.Print.{print}
@@ -10,21 +11,9 @@ use Rattle.wire_http.specs.declared.reply.Kind.{Kind}
 use Rattle.wire_http.specs.declared.reply.Kind.TheVariants.{Empty, Json, Bytes}
 use Rattle.wire_http.specs.declared.reply.Reply.{Reply}
 
--- the phrase of each status code that the archive sends (RFC 9110, 15), empty for others
+-- the phrase of a status code (RFC 9110, 15; 413 under its older name), empty for a code that has none
 abbrev pub phrase : ℕ → List ℕ
-phrase code =
-    if code == 200 then codes "OK"
-    else (if code == 201 then codes "Created"
-    else (if code == 400 then codes "Bad Request"
-    else (if code == 404 then codes "Not Found"
-    else (if code == 405 then codes "Method Not Allowed"
-    else (if code == 409 then codes "Conflict"
-    else (if code == 413 then codes "Payload Too Large"
-    else (if code == 500 then codes "Internal Server Error"
-    else (if code == 501 then codes "Not Implemented"
-    else (if code == 503 then codes "Service Unavailable"
-    else (if code == 507 then codes "Insufficient Storage"
-    else []))))))))))
+phrase code = unwrap_or (reason_phrase code) []
 
 -- the first line: the version, the status code and its phrase
 abbrev pub status_line : ℕ → List ℕ

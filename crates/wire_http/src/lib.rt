@@ -6,6 +6,7 @@ mod callers;
 mod fields;
 mod head;
 mod options;
+mod phrases;
 mod refusal;
 mod reply;
 mod rules;
@@ -13,6 +14,7 @@ mod target;
 mod written;
 
 pub use head::{BodyLen, Frame, Head, HeadRead, Judged, judge_head, read_head};
+pub use phrases::each_code_that_is_sent_has_its_phrase;
 pub use refusal::WireRefusal;
 pub use reply::{Kind, Reply, error_reply, refusal_reply};
 pub use rules::longest_body;

@@ -1,32 +1,13 @@
 // The text of a reply.
 ghost use Rattle.std.specs.Prelude.{◌≡◌, ◌++◌, length, IfOk, OnOk};
-ghost use Rattle.wire_http.specs.Reply.{phrase, field_line, status_line, type_lines, length_line, value_lines, close_lines, fields_text, content, reply_text};
+ghost use Rattle.wire_http.specs.Reply.{field_line, status_line, type_lines, length_line, value_lines, close_lines, fields_text, content, reply_text};
 
+use crate::phrases::phrase;
 use crate::reply::{Kind, Reply};
 use blob::Blob;
 use cta_site::{NoMemory, Text};
 use itoa::Buffer;
 use std::alloc::Global;
-
-// The phrase of a status code.
-fn phrase(code: u16) -> &'static str
-    ensures { result.now ≡ phrase code }
-{
-    match code {
-        200 => "OK",
-        201 => "Created",
-        400 => "Bad Request",
-        404 => "Not Found",
-        405 => "Method Not Allowed",
-        409 => "Conflict",
-        413 => "Payload Too Large",
-        500 => "Internal Server Error",
-        501 => "Not Implemented",
-        503 => "Service Unavailable",
-        507 => "Insufficient Storage",
-        _ => "",
-    }
-}
 
 fn put(out: &mut Vec<u8>, bytes: &[u8]) -> Result<(), NoMemory>
     ensures { OnOk result (out.new.items ≡ out.old.items ++ bytes.now) }
@@ -142,7 +123,7 @@ fn put_fields(out: &mut Vec<u8>, reply: &Reply) -> Result<(), NoMemory>
 
 /// The bytes of a reply (RFC 9112, 4 to 6): `HTTP/1.1`, the status code and its phrase; then of `Content-Type`,
 /// `Content-Length` (always), `Location`, `Allow` and `Connection: close`, in this order, those that the reply has;
-/// an empty line and the body. NoMemory leaves nothing. Its cost is the length of the text.
+/// an empty line and the body. A code that has no phrase has an empty one. NoMemory leaves nothing. Its cost is the length of the text.
 pub fn write_reply(alloc: Global, reply: &Reply) -> Result<Vec<u8>, NoMemory>
     ensures { IfOk result (λ text. text.items ≡ reply_text reply.now) }
 {

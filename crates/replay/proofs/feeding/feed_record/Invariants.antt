@@ -8,8 +8,8 @@ use Rattle.replay.proofs.feeding.feed_record.Given as goal
 
 abbrev pub invariant-loop-wanted : goal.invariant-loop-wanted
 invariant-loop-wanted g l = record {
-  going : (before : List Turn) → StandFor l.initial.links l.initial.archive.site.limits.file before
-      → Going l.links l.initial.archive l.archive before l.link l.moment l.wanted l.len
+  going : (before : List Turn) → StandFor l.initial.links l.initial.service.archive.site.limits.file before
+      → Going l.links l.initial.service.archive l.service.archive before l.link l.moment l.wanted l.len
       (world (g.S.Source.left l.initial.script) l.initial.taken (g.S.Source.faults l.initial.script) (g.K.Sink.written l.initial.out) (g.K.Sink.faults l.initial.out))
       (world (g.S.Source.left l.script) l.taken (g.S.Source.faults l.script) (g.K.Sink.written l.out) (g.K.Sink.faults l.out));
   reads : g.S.Source.faults l.initial.script ≤ g.S.Source.faults l.script;

@@ -6,7 +6,7 @@ use Rattle.replay.proofs.output.answer_events.Goals as goal
 
 pub events-init : goal.events-init
 events-init g c = record {
-  so_far = none_so_far c.args.archive.now c.args.link c.args.moment (given_by c.args.events.items) _ (g.K.Sink.written c.args.out.now) (given_all c.args.events.items c.reverse.new.self.items c.reverse.ensures.items);
+  so_far = none_so_far c.args.service.now.archive c.args.link c.args.moment (given_by c.args.events.items) _ (g.K.Sink.written c.args.out.now) (given_all c.args.events.items c.reverse.new.self.items c.reverse.ensures.items);
   later = omega arith;
 }
 
@@ -14,9 +14,9 @@ pub events-preserved : goal.events-preserved
 events-preserved g c =
     let h = c.events.invariant in
     let next = given_next c.events.events.items c.pop.new.self.items c.in-Some.event c.in-Some.ensures.items in
-    let so_far = subst (λ es. AnsweredSoFar c.args.archive.now c.events.archive c.args.link c.args.moment (given_by c.args.events.items) es (g.K.Sink.written c.args.out.now) (g.K.Sink.written c.events.out)) next h.so_far in
+    let so_far = subst (λ es. AnsweredSoFar c.args.service.now.archive c.events.service.archive c.args.link c.args.moment (given_by c.args.events.items) es (g.K.Sink.written c.args.out.now) (g.K.Sink.written c.events.out)) next h.so_far in
     record {
-      so_far = more_so_far c.args.archive.now c.events.archive c.answer_event.new.archive c.args.link c.args.moment _ (next_events c.in-Some.event) (given_by (reverse c.pop.new.self.items))
+      so_far = more_so_far c.args.service.now.archive c.events.service.archive c.answer_event.new.service.archive c.args.link c.args.moment _ (next_events c.in-Some.event) (given_by (reverse c.pop.new.self.items))
           (g.K.Sink.written c.args.out.now) (g.K.Sink.written c.events.out) (g.K.Sink.written c.answer_event.new.out) so_far c.in_default-answer_event.ensures.answered c.in_default-answer_event.ensures.kept;
       later = omega arith;
     }
@@ -25,8 +25,8 @@ pub returns-in-Err-clause-answered : goal.returns-in-Err-clause-answered
 returns-in-Err-clause-answered g c =
     let h = c.events.invariant in
     let next = given_next c.events.events.items c.pop.new.self.items c.in-Some.event c.in-Some.ensures.items in
-    let so_far = subst (λ es. AnsweredSoFar c.args.archive.now c.events.archive c.args.link c.args.moment (given_by c.args.events.items) es (g.K.Sink.written c.args.out.now) (g.K.Sink.written c.events.out)) next h.so_far in
-    not_so_far c.in-Err.why c.args.archive.now c.events.archive c.args.link c.args.moment _ (next_events c.in-Some.event) (given_by (reverse c.pop.new.self.items))
+    let so_far = subst (λ es. AnsweredSoFar c.args.service.now.archive c.events.service.archive c.args.link c.args.moment (given_by c.args.events.items) es (g.K.Sink.written c.args.out.now) (g.K.Sink.written c.events.out)) next h.so_far in
+    not_so_far c.in-Err.why c.args.service.now.archive c.events.service.archive c.args.link c.args.moment _ (next_events c.in-Some.event) (given_by (reverse c.pop.new.self.items))
     (g.K.Sink.written c.args.out.now) (g.K.Sink.written c.events.out) (g.K.Sink.written c.answer_event.new.out) (g.K.Sink.faults c.args.out.now) (g.K.Sink.faults c.events.out) (g.K.Sink.faults c.answer_event.new.out)
     so_far h.later c.in-Err.ensures.answered
 
@@ -34,10 +34,10 @@ pub returns : goal.returns
 returns g c =
     let h = c.events.invariant in
     let empty : length c.events.events.items ≡ 0 = omega (arith, c.events.events.ok.0, c.in_default.ensures.cases.0) in
-    let so_far = subst (λ es. AnsweredSoFar c.args.archive.now c.events.archive c.args.link c.args.moment (given_by c.args.events.items) es (g.K.Sink.written c.args.out.now) (g.K.Sink.written c.events.out))
+    let so_far = subst (λ es. AnsweredSoFar c.args.service.now.archive c.events.service.archive c.args.link c.args.moment (given_by c.args.events.items) es (g.K.Sink.written c.args.out.now) (g.K.Sink.written c.events.out))
     (given_none c.events.events.items empty) h.so_far in
     record {
-      answered = all_wrote c.args.archive.now c.events.archive c.args.link c.args.moment _ _ _ so_far;
-      kept = all_keeps c.args.archive.now c.events.archive c.args.link c.args.moment _ _ _ so_far;
+      answered = all_wrote c.args.service.now.archive c.events.service.archive c.args.link c.args.moment _ _ _ so_far;
+      kept = all_keeps c.args.service.now.archive c.events.service.archive c.args.link c.args.moment _ _ _ so_far;
       later = h.later;
     }

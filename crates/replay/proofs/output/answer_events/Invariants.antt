@@ -6,7 +6,7 @@ use Rattle.replay.proofs.output.answer_events.Given as goal
 
 abbrev pub invariant-events : goal.invariant-events
 invariant-events g l = record {
-  so_far : AnsweredSoFar l.initial.archive l.archive l.link l.moment (given_by l.fn.events.items) (given_by (reverse l.events.items))
+  so_far : AnsweredSoFar l.initial.service.archive l.service.archive l.link l.moment (given_by l.fn.events.items) (given_by (reverse l.events.items))
       (g.K.Sink.written l.initial.out) (g.K.Sink.written l.out);
   later : g.K.Sink.faults l.initial.out ≤ g.K.Sink.faults l.out;
 }

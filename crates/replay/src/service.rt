@@ -12,7 +12,7 @@ use conn::{Reply, write_reply};
 use cta_model::{Ask, Look, NoMemory};
 use links::Request;
 use std::alloc::Global;
-use tape_routes::{Routed, reply_of, route};
+use tape_routes::{Routed, Routes, reply_of};
 
 // The reply to an ask of a caller. The content that comes along is dropped: no file's bytes are kept so far.
 fn ask_reply(
@@ -66,21 +66,39 @@ fn routed_reply(
     }
 }
 
-/// The text of the reply to a request, given at a moment, in seconds since 1970. An ask that is accepted is kept. After
-/// NoMemory it may have been kept, and the reply is lost.
-#[tactic(auto, unfolding(crate::specs::Output::request_reply, crate::specs::Output::request_keeps))]
-pub fn answer_request(
-    alloc: Global,
-    archive: &mut Archive,
-    moment: u64,
-    request: Request,
-) -> Result<Vec<u8>, NoMemory>
-    requires { moment ≤ greatest_moment }
-    ensures text { IfOk result (λ text. text.items ≡ request_reply archive.old moment (request_view request)) }
-    ensures kept { OnOk result (archive.new ≡ request_keeps archive.old moment (request_view request)) }
-{
-    let close = request.close;
-    let routed = route(alloc, archive.site(), request)?;
-    let reply = routed_reply(alloc, archive, moment, routed, close)?;
-    write_reply(alloc, &reply)
+/// An archive behind the routes by which requests reach it.
+#[derive(Drop)]
+pub struct Service {
+    pub archive: Archive,
+    routes: Routes,
+}
+
+impl Service {
+    /// This archive, with its routes made ready. NoMemory lets the archive go.
+    pub fn new(alloc: Global, archive: Archive) -> Result<Service, NoMemory>
+        ensures { IfOk result (λ service. service.archive ≡ archive) }
+    {
+        match Routes::new(alloc) {
+            Ok(routes) => Ok(Service { archive, routes }),
+            Err(error) => Err(error),
+        }
+    }
+
+    /// The text of the reply to a request, given at a moment, in seconds since 1970. An ask that is accepted is kept. After
+    /// NoMemory it may have been kept, and the reply is lost.
+    pub fn answer(
+        &mut self,
+        alloc: Global,
+        moment: u64,
+        request: Request,
+    ) -> Result<Vec<u8>, NoMemory>
+        requires { moment ≤ greatest_moment }
+        ensures text { IfOk result (λ text. text.items ≡ request_reply self.old.archive moment (request_view request)) }
+        ensures kept { OnOk result (self.new.archive ≡ request_keeps self.old.archive moment (request_view request)) }
+    {
+        let close = request.close;
+        let routed = self.routes.route(alloc, self.archive.site(), request)?;
+        let reply = routed_reply(alloc, &mut self.archive, moment, routed, close)?;
+        write_reply(alloc, &reply)
+    }
 }

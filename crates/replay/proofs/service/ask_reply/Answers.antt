@@ -2,7 +2,7 @@ use Rattle.std.proofs.Common.{◌≡◌, ap, ◌∙◌}
 use Rattle.cta_model.specs.Bare.{bare_ask}
 use Rattle.replay.proofs.Running.{kept_after-site}
 use Rattle.replay.proofs.Served.{serves_ask, ask_replied, ask_kept}
-use Rattle.replay.proofs.requests.ask_reply.Goals as goal
+use Rattle.replay.proofs.service.ask_reply.Goals as goal
 
 pub reply_of-requires-clause-caller : goal.reply_of-requires-clause-caller
 reply_of-requires-clause-caller c = (serves_ask c.args.archive.now.site c.args.archive.now.history c.args.moment c.args.ask c.in-Ok.answer c.in-Ok.ensures.answer).callers

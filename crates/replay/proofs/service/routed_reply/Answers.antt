@@ -4,7 +4,7 @@ use Rattle.std.specs.Arc.{arc_value}
 use Rattle.std.proofs.lemmas.Result.{IfOk-weaker, on_ok_weaker}
 use Rattle.cta_model.specs.Bare.{bare_ask}
 use Rattle.replay.proofs.Served.{on_ok, content_not_kept, looks_keep, replied}
-use Rattle.replay.proofs.requests.routed_reply.Goals as goal
+use Rattle.replay.proofs.service.routed_reply.Goals as goal
 
 pub returns-in-Ask-clause-reply : goal.returns-in-Ask-clause-reply
 returns-in-Ask-clause-reply c =

@@ -1,5 +1,5 @@
 use Rattle.replay.proofs.Served.{serves_look, look_replied}
-use Rattle.replay.proofs.requests.look_reply.Goals as goal
+use Rattle.replay.proofs.service.look_reply.Goals as goal
 
 pub reply_of-requires-clause-caller : goal.reply_of-requires-clause-caller
 reply_of-requires-clause-caller c = (serves_look c.args.archive.now.site c.args.archive.now.history c.args.moment c.args.look.now c.in_ok-answer.answer c.in_ok-answer.ensures).callers
