@@ -1,16 +1,14 @@
 -- A router to which each route of the table was added finds the endpoint of each target.
-use Rattle.std.proofs.Common.{◌≡◌, ◌⊎◌, inl, inr, ℕ, ◌<◌, Bool, true, false, cond, ◌&&◌, List, [], ◌∷◌, Option, Some, None, option_map, length, Result, Ok, Err, is_some, refl, sym, ap, subst, ◌∙◌, arith, get_or}
+use Rattle.std.proofs.Common.{◌≡◌, ◌⊎◌, inl, inr, ℕ, ◌<◌, Bool, true, false, cond, ◌&&◌, List, [], ◌∷◌, Option, Some, None, option_map, is_some, refl, sym, ap, subst, ◌∙◌, arith, get_or}
 use Rattle.std.specs.List.{find}
 use Rattle.matchit.specs.Order.{placed}
 use Rattle.matchit.specs.Rows.{RowsOf, comes_before}
-use Rattle.matchit.specs.Route.{Scan}
-use Rattle.matchit.specs.Router.{RouteOf, InsertsRead, route_from}
+use Rattle.matchit.specs.Router.{RouteOf}
 use Rattle.matchit.specs.Seek.{first}
-use Rattle.matchit.specs.declared.error.InsertError.{InsertError}
 use Rattle.tape_routes.specs.declared.routes.Endpoint.{Endpoint}
 use Rattle.tape_routes.specs.declared.routes.Endpoint.TheVariants as at
 use Rattle.tape_routes.specs.declared.routes.TheConstants.{ENDPOINTS}
-use Rattle.tape_routes.specs.Router.{tokens, pattern_read, parameter_count, route_view, table_view, HasOneMore, FindsRoutes}
+use Rattle.tape_routes.specs.Router.{tokens, route_view, table_view, HasOneMore, FindsRoutes}
 use Rattle.tape_routes.specs.Routes.{route_of, parameter_of, every_endpoint, endpoint_of}
 use Rattle.tape_routes.proofs.Walks.{fits, is_good, both, AllRows, NoRow, HasRow, Finds, exact}
 use Rattle.tape_routes.proofs.Patterns.{is_plain, apart, fits_pattern, fits_apart}
@@ -64,13 +62,6 @@ leads_more e f old new more h = rw more.2 (leads_old f (more.0.pattern, more.0) 
 
 pub leads_it : (e : Endpoint) (old new : RowsOf (RouteOf Endpoint)) → HasOneMore e old new → Leads e new
 leads_it e old new more = rw more.2 (leads_new e (more.0.pattern, more.0) old (ap (λ (x : Endpoint × List ℕ × ℕ). x.0) more.1))
-
--- what an insert that succeeds adds
-pub inserted_one : (e : Endpoint) (text : List ℕ) (old new : RowsOf (RouteOf Endpoint)) (read : Result Scan InsertError) → pattern_read read ≡ Some (pattern_at e, parameter_count (route_of e).pattern) → InsertsRead read e old new (Ok tt) → HasOneMore e old new
-inserted_one e text old new (Ok s) same h =
-    let pair : (s.pattern, length s.names) ≡ (pattern_at e, parameter_count (route_of e).pattern) = cc in
-    (route_from s e, ap (λ (x : List ℕ × ℕ). (e, x.0, x.1)) pair, h.1)
-inserted_one e text old new (Err fault) same h = absurd (cc)
 
 -- each endpoint's pattern is one of those that the walk finds
 is_fit : (e : Endpoint) → (is_plain (route_of e).pattern && is_good (pattern_at e)) ≡ true

@@ -5,3 +5,4 @@ pub mod Parts
 pub mod Finding
 pub mod Bytes
 pub mod Taking
+pub mod Conflicts

@@ -3,7 +3,7 @@ use Rattle.std.specs.Prelude.{◌≡◌, ◌<◌, ◌++◌, ◌∷◌, [], ℕ, 
 use Rattle.std.specs.List.{AllByRecursion}
 use Rattle.matchit.specs.Order.{placed}
 use Rattle.matchit.specs.Route.{Scan, parse_route}
-use Rattle.matchit.specs.Router.{RouteOf}
+use Rattle.matchit.specs.Router.{RouteOf, nearest}
 use Rattle.matchit.specs.Rows.{RowsOf, param_token, catch_all_token}
 use Rattle.matchit.specs.Seek.{first, slash}
 use Rattle.matchit.specs.declared.error.InsertError.{InsertError}
@@ -38,6 +38,10 @@ route_view r = (r.value, r.pattern, length r.names)
 -- the same of the table
 abbrev pub table_view : Endpoint → Endpoint × List ℕ × ℕ
 table_view e = (e, tokens (route_of e).pattern, parameter_count (route_of e).pattern)
+
+-- no route of these rows conflicts with the route of this endpoint
+abbrev pub StandsApart : Endpoint → RowsOf (RouteOf Endpoint) → Type 0
+StandsApart e rows = nearest (tokens (route_of e).pattern) rows ≡ None
 
 -- the rows have one more, the route of this endpoint
 abbrev pub HasOneMore : Endpoint → RowsOf (RouteOf Endpoint) → RowsOf (RouteOf Endpoint) → Type 0

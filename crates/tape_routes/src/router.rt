@@ -1,11 +1,11 @@
 // The router that finds the endpoint of a target.
 ghost use Rattle.std.specs.Prelude.{◌≡◌, IfSome, OnOk, Some, option_map};
-ghost use Rattle.tape_routes.specs.Router.{FindsRoutes, HasOneMore};
+ghost use Rattle.tape_routes.specs.Router.{FindsRoutes, HasOneMore, StandsApart};
 ghost use Rattle.tape_routes.specs.Routes.{endpoint_of, parameter_of};
 
 use crate::routes::{ENDPOINTS, Endpoint, below};
 use cta_site::NoMemory;
-use matchit::Router;
+use matchit::{InsertError, Router};
 use std::alloc::Global;
 
 /// The route table, made ready to find the route of a target. It is made once, and serves every request.
@@ -15,13 +15,15 @@ pub struct Routes {
     ghost finds: { FindsRoutes router },
 }
 
-// Puts the route of an endpoint into a router.
+// Puts the route of an endpoint into a router. Its text is one that a router reads, so only want of memory is left to refuse it.
 fn add(router: &mut Router<Endpoint>, endpoint: Endpoint) -> Result<(), NoMemory>
+    requires { StandsApart endpoint router.old }
     ensures { OnOk result (HasOneMore endpoint router.old router.new) }
 {
     match router.insert(endpoint.text(), endpoint) {
         Ok(()) => Ok(()),
-        Err(_) => Err(NoMemory),
+        Err(InsertError::OutOfMemory) => Err(NoMemory),
+        Err(_) => unreachable!(),
     }
 }
 
