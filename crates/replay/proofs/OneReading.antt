@@ -14,7 +14,7 @@ use Rattle.replay.specs.declared.line.Line.{Line}
 use Rattle.replay.specs.declared.line.Line.TheVariants.{Http, Step, End}
 use Rattle.replay.proofs.Parts.{same_words, no_word, Without-decimal}
 use Rattle.replay.proofs.Drives.{Without-drive, same_drive}
-use Rattle.replay.proofs.Texts.{same_text, same_head, same_front, not_step, Without-text, Without-word}
+use Rattle.replay.proofs.Texts.{http, same_text, same_head, same_front, not_step, Without-text, Without-word}
 use Rattle.replay.proofs.Readings.{same_record, against, below_record, spelled, line_of_record, behind_line}
 
 -- ---- lines
@@ -26,7 +26,7 @@ module _ (site : Site) (valid : IsWellFormed site) where
       (Without-word (drive_name site drive) (decimal moment) (Without-drive 10 site drive refl valid h.0) (Without-decimal 10 moment (omega arith) (omega arith)))
 
   Without-line : (l : Line) → IsLine site l → Without 10 (text site l)
-  Without-line (Http link moment len) h = Without-text (Http link moment len) h
+  Without-line (Http l) h = Without-text (Http l) h
   Without-line (Step drive moment) h = Without-step drive moment h
   Without-line End h = Without-text End h
 
@@ -38,13 +38,13 @@ module _ (site : Site) (valid : IsWellFormed site) where
 
   -- two lines for a site differ in their text
   same_said : (l l' : Line) → IsLine site l → IsLine site l' → text site l ≡ text site l' → l ≡ l'
-  same_said (Http a b c) (Http a' b' c') h k e = same_text (Http a b c) (Http a' b' c') h k e
-  same_said (Http a b c) (Step d m) h k e = absurd (not_step site d m (Http a b c) [] [] h (ap (λ x. x ++ []) (sym e)))
-  same_said (Http a b c) End h k e = same_text (Http a b c) End h k e
-  same_said (Step d m) (Http a b c) h k e = absurd (not_step site d m (Http a b c) [] [] k (ap (λ x. x ++ []) e))
+  same_said (Http l) (Http l') h k e = same_text (Http l) (Http l') h k e
+  same_said (Http l) (Step d m) h k e = absurd (not_step site d m (Http l) [] [] h (ap (λ x. x ++ []) (sym e)))
+  same_said (Http l) End h k e = same_text (Http l) End h k e
+  same_said (Step d m) (Http l) h k e = absurd (not_step site d m (Http l) [] [] k (ap (λ x. x ++ []) e))
   same_said (Step d m) (Step d' m') h k e = same_step d m d' m' h k e
   same_said (Step d m) End h k e = absurd (not_step site d m End [] [] k (ap (λ x. x ++ []) e))
-  same_said End (Http a b c) h k e = same_text End (Http a b c) h k e
+  same_said End (Http l) h k e = same_text End (Http l) h k e
   same_said End (Step d m) h k e = absurd (not_step site d m End [] [] h (ap (λ x. x ++ []) (sym e)))
   same_said End End h k e = refl
 
@@ -58,10 +58,10 @@ data Front : Type 0 where
 abbrev front_of : Tail → Front
 front_of Ended = Said End []
 front_of (InLine part) = Open part
-front_of (InBytes link moment len held) = Said (Http link moment len) held
+front_of (InBytes link moment len held) = Said (http link moment len) held
 front_of (BadLine line) = Unsaid line
 front_of (LongLine part) = Open part
-front_of (NoLf link moment bytes byte) = Said (Http link moment (length bytes)) (bytes ++ byte ∷ [])
+front_of (NoLf link moment bytes byte) = Said (http link moment (length bytes)) (bytes ++ byte ∷ [])
 front_of (UnbuiltStep drive moment) = Said (Step drive moment) []
 
 abbrev front_bytes : Site → Front → List ℕ
@@ -117,7 +117,7 @@ IsHttpTail link moment len rest t =
     ⊎ ((bytes : List ℕ) × (byte : ℕ) × (t ≡ NoLf link moment bytes byte) × (rest ≡ bytes ++ byte ∷ []) × (len ≡ length bytes))
 
 abbrev IsTailOf : Front → Tail → Type 0
-IsTailOf (Said (Http link moment len) rest) t = IsHttpTail link moment len rest t
+IsTailOf (Said (Http l) rest) t = IsHttpTail l.link l.moment l.len rest t
 IsTailOf (Said (Step drive moment) rest) t = t ≡ UnbuiltStep drive moment
 IsTailOf (Said End rest) t = t ≡ Ended
 IsTailOf (Unsaid line) t = t ≡ BadLine line
@@ -153,7 +153,7 @@ same_open_tail part t u (inr p) (inl q) = absurd (omega (arith, p.1, q.1))
 same_open_tail part t u (inr p) (inr q) = p.0 ∙ sym q.0
 
 same_tail_of : (f : Front) (t u : Tail) → IsTailOf f t → IsTailOf f u → t ≡ u
-same_tail_of (Said (Http a b c) rest) t u p q = same_http_tail a b c rest t u p q
+same_tail_of (Said (Http l) rest) t u p q = same_http_tail l.link l.moment l.len rest t u p q
 same_tail_of (Said (Step drive moment) rest) t u p q = p ∙ sym q
 same_tail_of (Said End rest) t u p q = p ∙ sym q
 same_tail_of (Unsaid line) t u p q = p ∙ sym q

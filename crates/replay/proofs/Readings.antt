@@ -6,15 +6,16 @@ use Rattle.cta_site.specs.declared.site.Site.{Site}
 use Rattle.replay.specs.Line.{text, http_text}
 use Rattle.links.specs.Run.{Feed}
 use Rattle.replay.specs.Script.{feed, Tail, Ended, InLine, InBytes, BadLine, LongLine, NoLf, UnbuiltStep, IsOpen, IsTail, IsRecord, ended, feeding, whole_bytes, tail_bytes, spelling}
+use Rattle.replay.specs.declared.line.HttpLine.{HttpLine}
 use Rattle.replay.specs.declared.line.Line.{Line}
 use Rattle.replay.specs.declared.line.Line.TheVariants.{Http, Step, End}
-use Rattle.replay.proofs.Texts.{IsBuiltLine, line_text, same_line, same_head, same_front, not_step, length-without, length-text, Without-text}
+use Rattle.replay.proofs.Texts.{http, IsBuiltLine, line_text, same_line, same_head, same_front, not_step, length-without, length-text, Without-text}
 use Rattle.replay.proofs.Parts.{same_words}
 
 -- ---- a record, by its line and what stands behind it
 
 abbrev pub line_of_record : Feed → Line
-line_of_record f = Http f.link f.moment (length f.bytes)
+line_of_record f = http f.link f.moment (length f.bytes)
 
 abbrev pub behind_line : Feed → List ℕ → List ℕ
 behind_line f r = f.bytes ++ 10 ∷ r
@@ -31,10 +32,15 @@ same_parts : (f g : Feed) → f.link ≡ g.link → f.moment ≡ g.moment → f.
 same_parts f g a b c =
     ap (λ x. feed x f.moment f.bytes) a ∙ ap (λ x. feed g.link x f.bytes) b ∙ ap (λ x. feed g.link g.moment x) c
 
-http_len : (a b c a' b' c' : ℕ) → Http a b c ≡ Http a' b' c' → (a ≡ a') × (b ≡ b') × (c ≡ c')
-http_len a b c a' b' c' e = (cc, cc, cc)
+same_http_line : (l m : HttpLine) → Http l ≡ Http m → l ≡ m
+same_http_line l m e = cc
 
-http_end : (a b c : ℕ) → Http a b c ≡ End → ⊥
+http_len : (a b c a' b' c' : ℕ) → http a b c ≡ http a' b' c' → (a ≡ a') × (b ≡ b') × (c ≡ c')
+http_len a b c a' b' c' e =
+    let same = same_http_line (record { link = a; moment = b; len = c }) (record { link = a'; moment = b'; len = c' }) e in
+    (ap (λ (l : HttpLine). l.link) same, ap (λ (l : HttpLine). l.moment) same, ap (λ (l : HttpLine). l.len) same)
+
+http_end : (a b c : ℕ) → http a b c ≡ End → ⊥
 http_end a b c e = cc
 
 pub same_record : (f g : Feed) (r s : List ℕ) → IsRecord f → IsRecord g → spelling f ++ r ≡ spelling g ++ s → (f ≡ g) × (r ≡ s)
@@ -49,15 +55,15 @@ module _ (site : Site) where
   abbrev Against : Tail → List ℕ → Line → List ℕ → Type 0
   Against Ended x l z = End ≡ l
   Against (InLine part) x l z = length part ≤ length (line_text l)
-  Against (InBytes link moment len held) x l z = (Http link moment len ≡ l) × (held ++ x ≡ z)
+  Against (InBytes link moment len held) x l z = (http link moment len ≡ l) × (held ++ x ≡ z)
   Against (BadLine line) x l z = ⊥
   Against (LongLine part) x l z = ⊥
-  Against (NoLf link moment bytes byte) x l z = (Http link moment (length bytes) ≡ l) × (bytes ++ byte ∷ x ≡ z)
+  Against (NoLf link moment bytes byte) x l z = (http link moment (length bytes) ≡ l) × (bytes ++ byte ∷ x ≡ z)
   Against (UnbuiltStep drive moment) x l z = ⊥
 
   -- a line that is none of a script's is none of these
   not_bad : (line : List ℕ) (x : List ℕ) (l : Line) (z : List ℕ) → IsTail site (BadLine line) → IsBuiltLine l → line ≡ line_text l → ⊥
-  not_bad line x (Http link moment len) z h k e = h.2 (Http link moment len) k (sym e)
+  not_bad line x (Http m) z h k e = h.2 (Http m) k (sym e)
   not_bad line x (Step drive moment) z h k e = k
   not_bad line x End z h k e = h.2 End tt (sym e)
 
@@ -67,7 +73,7 @@ module _ (site : Site) where
   against (InBytes link moment len held) x l z h k e =
       let line = http_text link moment len in
       let f : (ended line ++ held) ++ x ≡ line ++ 10 ∷ (held ++ x) = append_assoc (ended line) held x ∙ append_assoc line (10 ∷ []) (held ++ x) in
-      same_line (Http link moment len) l (held ++ x) z h.0 k (sym f ∙ e)
+      same_line (http link moment len) l (held ++ x) z h.0 k (sym f ∙ e)
   against (BadLine line) x l z h k e =
       let p = same_words 10 line (line_text l) x z h.0 (Without-text l k) (sym (append_assoc line (10 ∷ []) x) ∙ e) in
       not_bad line x l z h k p.0
@@ -76,7 +82,7 @@ module _ (site : Site) where
       let line = http_text link moment (length bytes) in
       let f : ((ended line ++ bytes) ++ byte ∷ []) ++ x ≡ line ++ 10 ∷ (bytes ++ byte ∷ x) =
       append_assoc (ended line ++ bytes) (byte ∷ []) x ∙ append_assoc (ended line) bytes (byte ∷ x) ∙ append_assoc line (10 ∷ []) (bytes ++ byte ∷ x) in
-      same_line (Http link moment (length bytes)) l (bytes ++ byte ∷ x) z h.0 k (sym f ∙ e)
+      same_line (http link moment (length bytes)) l (bytes ++ byte ∷ x) z h.0 k (sym f ∙ e)
   against (UnbuiltStep drive moment) x l z h k e = not_step site drive moment l (10 ∷ x) (10 ∷ z) k (sym (append_assoc (text site (Step drive moment)) (10 ∷ []) x) ∙ e)
 
   -- it is the line `end`, or it may go on and is no longer than so many bytes

@@ -12,14 +12,18 @@ use Rattle.replay.proofs.Parts.{same_words, Without-append, Without-decimal}
 
 -- ---- lines
 
+-- the line of a record, by its numbers
+abbrev pub http : ℕ → ℕ → ℕ → Line
+http link moment len = Http (record { link = link; moment = moment; len = len })
+
 -- a line of a record of bytes, or the line `end`
 abbrev pub IsBuiltLine : Line → Type 0
-IsBuiltLine (Http link moment len) = IsHttp link moment len
+IsBuiltLine (Http h) = IsHttp h.link h.moment h.len
 IsBuiltLine (Step drive moment) = ⊥
 IsBuiltLine End = Unit {0}
 
 abbrev pub line_text : Line → List ℕ
-line_text (Http link moment len) = http_text link moment len
+line_text (Http h) = http_text h.link h.moment h.len
 line_text (Step drive moment) = []
 line_text End = codes "end"
 
@@ -27,19 +31,19 @@ pub Without-word : (a b : List ℕ) → Without 10 a → Without 10 b → Withou
 Without-word a b p q = Without-append 10 a (32 ∷ b) p ((λ e. omega arith), q)
 
 pub Without-text : (l : Line) → IsBuiltLine l → Without 10 (line_text l)
-Without-text (Http link moment len) h =
-    let words = Without-word (decimal link) (then_word (decimal moment) (decimal len)) (Without-decimal 10 link (omega arith) (omega arith))
-    (Without-word (decimal moment) (decimal len) (Without-decimal 10 moment (omega arith) (omega arith)) (Without-decimal 10 len (omega arith) (omega arith))) in
-    Without-word (codes "http") (http_words link moment len) ((λ e. omega arith), ((λ e. omega arith), ((λ e. omega arith), ((λ e. omega arith), tt)))) words
+Without-text (Http l) h =
+    let words = Without-word (decimal l.link) (then_word (decimal l.moment) (decimal l.len)) (Without-decimal 10 l.link (omega arith) (omega arith))
+    (Without-word (decimal l.moment) (decimal l.len) (Without-decimal 10 l.moment (omega arith) (omega arith)) (Without-decimal 10 l.len (omega arith) (omega arith))) in
+    Without-word (codes "http") (http_words l.link l.moment l.len) ((λ e. omega arith), ((λ e. omega arith), ((λ e. omega arith), ((λ e. omega arith), tt)))) words
 Without-text (Step drive moment) h = absurd h
 Without-text End h = ((λ e. omega arith), ((λ e. omega arith), ((λ e. omega arith), tt)))
 
 pub length-text : (l : Line) → IsBuiltLine l → length (line_text l) ≤ 256
-length-text (Http link moment len) h =
-    let a : length (decimal link) ≤ 10 = length-decimal-le 10 link (omega arith) (omega arith) (omega arith) in
-    let b : length (decimal moment) ≤ 12 = length-decimal-le 12 moment (omega arith) (omega arith) (omega arith) in
-    let c : length (decimal len) ≤ 10 = length-decimal-le 10 len (omega arith) (omega arith) (omega arith) in
-    omega (arith, length-append (decimal link) (32 ∷ then_word (decimal moment) (decimal len)), length-append (decimal moment) (32 ∷ decimal len))
+length-text (Http l) h =
+    let a : length (decimal l.link) ≤ 10 = length-decimal-le 10 l.link (omega arith) (omega arith) (omega arith) in
+    let b : length (decimal l.moment) ≤ 12 = length-decimal-le 12 l.moment (omega arith) (omega arith) (omega arith) in
+    let c : length (decimal l.len) ≤ 10 = length-decimal-le 10 l.len (omega arith) (omega arith) (omega arith) in
+    omega (arith, length-append (decimal l.link) (32 ∷ then_word (decimal l.moment) (decimal l.len)), length-append (decimal l.moment) (32 ∷ decimal l.len))
 length-text (Step drive moment) h = absurd h
 length-text End h = omega arith
 
@@ -61,14 +65,14 @@ same_http a b c a' b' c' h h' e =
 
 -- two lines differ in their text
 pub same_text : (l l' : Line) → IsBuiltLine l → IsBuiltLine l' → line_text l ≡ line_text l' → l ≡ l'
-same_text (Http a b c) (Http a' b' c') h h' e =
-    let words : http_words a b c ≡ http_words a' b' c' = append_cancel_left (codes "http ") (http_words a b c) (http_words a' b' c') e in
-    let p = same_http a b c a' b' c' h h' words in
-    ap (λ k. Http k b c) p.0 ∙ ap (λ k. Http a' k c) p.1 ∙ ap (Http a' b') p.2
-same_text (Http a b c) (Step a' b') h h' e = absurd h'
-same_text (Http a b c) End h h' e = absurd (apart 104 101 _ _ (λ f. omega arith) e)
+same_text (Http l) (Http m) h h' e =
+    let words : http_words l.link l.moment l.len ≡ http_words m.link m.moment m.len = append_cancel_left (codes "http ") (http_words l.link l.moment l.len) (http_words m.link m.moment m.len) e in
+    let p = same_http l.link l.moment l.len m.link m.moment m.len h h' words in
+    ap (λ k. http k l.moment l.len) p.0 ∙ ap (λ k. http m.link k l.len) p.1 ∙ ap (http m.link m.moment) p.2
+same_text (Http l) (Step a' b') h h' e = absurd h'
+same_text (Http l) End h h' e = absurd (apart 104 101 _ _ (λ f. omega arith) e)
 same_text (Step a b) l' h h' e = absurd h
-same_text End (Http a' b' c') h h' e = absurd (apart 101 104 _ _ (λ f. omega arith) e)
+same_text End (Http m) h h' e = absurd (apart 101 104 _ _ (λ f. omega arith) e)
 same_text End (Step a' b') h h' e = absurd h'
 same_text End End h h' e = refl
 
@@ -80,7 +84,7 @@ same_line l l' x y h h' e =
 
 -- no `step` line begins so
 pub not_step : (site : Site) (drive moment : ℕ) (l : Line) (x y : List ℕ) → IsBuiltLine l → text site (Step drive moment) ++ x ≡ line_text l ++ y → ⊥
-not_step site drive moment (Http a b c) x y h e = apart 115 104 _ _ (λ f. omega arith) e
+not_step site drive moment (Http l) x y h e = apart 115 104 _ _ (λ f. omega arith) e
 not_step site drive moment (Step a b) x y h e = h
 not_step site drive moment End x y h e = apart 115 101 _ _ (λ f. omega arith) e
 

@@ -30,7 +30,7 @@ http_text link moment len = then_word (codes "http") (http_words link moment len
 
 -- a line without the LF that ends it
 abbrev pub text : Site → Line → List ℕ
-text site (Http link moment len) = http_text link moment len
+text site (Http h) = http_text h.link h.moment h.len
 text site (Step drive moment) = then_word (codes "step") (step_words site drive moment)
 text site End = codes "end"
 
@@ -44,6 +44,6 @@ IsStep site drive moment = (drive < length site.drives.items) × (moment ≤ gre
 
 -- a line of a script for a site
 abbrev pub IsLine : Site → Line → Type 0
-IsLine site (Http link moment len) = IsHttp link moment len
+IsLine site (Http h) = IsHttp h.link h.moment h.len
 IsLine site (Step drive moment) = IsStep site drive moment
 IsLine site End = Unit {0}

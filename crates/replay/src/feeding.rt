@@ -8,10 +8,11 @@ ghost use Rattle.replay.specs.Line.{IsHttp};
 ghost use Rattle.replay.specs.Intake.{budget};
 ghost use Rattle.replay.specs.Outcome.{Feeds, Delivers, turn_with, world};
 
+use crate::front::Front;
 use crate::intake::{BUDGET, Stop, take_piece};
+use crate::line::HttpLine;
 use crate::output::{Unwritten, answer_events};
-use crate::service::Service;
-use links::{Links, begins_empty};
+use links::begins_empty;
 use outside::{Sink, Source};
 use std::alloc::Global;
 
@@ -29,8 +30,7 @@ pub enum FeedEnd {
 // Feeds a piece to a link, behind the bytes of its record that were fed before, and answers all events that it completes.
 fn feed_piece<K: Sink>(
     alloc: Global,
-    service: &mut Service,
-    links: &mut Links,
+    front: &mut Front,
     out: &mut K,
     link: u32,
     moment: u64,
@@ -38,14 +38,14 @@ fn feed_piece<K: Sink>(
 ) -> Result<(), Unwritten>
     requires link { link < 1024 }
     requires moment { moment ≤ greatest_moment }
-    requires room { HasRoomOn links.old link (length piece.now) }
-    ensures feeds { (limit : ℕ) (before : List Turn) (bytes : List ℕ) (events : List Event) → StandFor links.old limit (before ++ turn_with link moment bytes events ∷ [])
-        → Feeds result links.new limit service.old.archive service.new.archive before link moment (bytes ++ piece.now) events
+    requires room { HasRoomOn front.old.links link (length piece.now) }
+    ensures feeds { (limit : ℕ) (before : List Turn) (bytes : List ℕ) (events : List Event) → StandFor front.old.links limit (before ++ turn_with link moment bytes events ∷ [])
+        → Feeds result front.new.links limit front.old.service.archive front.new.service.archive before link moment (bytes ++ piece.now) events
         (K.written out.old) (K.written out.new) (K.faults out.old) (K.faults out.new) }
     ensures later { K.faults out.old ≤ K.faults out.new }
 {
-    match links.turn(alloc, link, piece) {
-        Ok(events) => answer_events(alloc, service, out, link, moment, events),
+    match front.links.turn(alloc, link, piece) {
+        Ok(events) => answer_events(alloc, &mut front.service, out, link, moment, events),
         Err(_) => Err(Unwritten::Wanting),
     }
 }
@@ -54,41 +54,39 @@ fn feed_piece<K: Sink>(
 /// record's moment. Room is made before a byte is taken, so that what was taken can be fed. `buffer` is room for a piece.
 pub fn feed_record<S: Source, K: Sink>(
     alloc: Global,
-    service: &mut Service,
-    links: &mut Links,
+    front: &mut Front,
     script: &mut S,
     taken: &mut u64,
     out: &mut K,
     buffer: &mut [u8],
-    link: u32,
-    moment: u64,
-    len: u32,
+    line: HttpLine,
 ) -> FeedEnd
-    requires http { IsHttp link moment len }
+    requires http { IsHttp line.link line.moment line.len }
     requires within { taken.old ≤ budget }
     requires buffer { 0 < length buffer.old }
-    ensures delivers { (before : List Turn) → StandFor links.old service.old.archive.site.limits.file before
-        → Delivers result links.new service.old.archive service.new.archive before link moment len
+    ensures delivers { (before : List Turn) → StandFor front.old.links front.old.service.archive.site.limits.file before
+        → Delivers result front.new.links front.old.service.archive front.new.service.archive before line.link line.moment line.len
         (world (S.left script.old) taken.old (S.faults script.old) (K.written out.old) (K.faults out.old))
         (world (S.left script.new) taken.new (S.faults script.new) (K.written out.new) (K.faults out.new)) }
     ensures later { (S.faults script.old ≤ S.faults script.new) × (K.faults out.old ≤ K.faults out.new) }
     ensures within { taken.new ≤ budget }
 {
     begins_empty();
-    let mut wanted = len as usize;
+    let mut wanted = line.len as usize;
     while wanted > 0 {
         if *taken == BUDGET {
             return FeedEnd::Part(Stop::Full);
         }
         let most = wanted.min(buffer.len()).min((BUDGET - *taken) as usize);
-        let Ok(()) = links.reserve(link, most) else {
+        let Ok(()) = front.links.reserve(line.link, most) else {
             return FeedEnd::Part(Stop::Memory);
         };
         let count = match take_piece(script, taken, &mut buffer[..most]) {
             Ok(count) => count,
             Err(why) => return FeedEnd::Part(why),
         };
-        if let Err(why) = feed_piece(alloc, service, links, out, link, moment, &buffer[..count]) {
+        let piece = &buffer[..count];
+        if let Err(why) = feed_piece(alloc, front, out, line.link, line.moment, piece) {
             return FeedEnd::Unanswered(why);
         }
         wanted -= count;

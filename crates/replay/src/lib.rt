@@ -6,6 +6,7 @@
 
 mod bytes;
 mod feeding;
+mod front;
 mod intake;
 mod laws;
 mod line;

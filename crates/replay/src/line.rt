@@ -7,10 +7,18 @@ ghost use Rattle.replay.specs.declared.line.Line.{Line};
 use crate::bytes::{first_part, number_of};
 use cta_site::ValidSite;
 
+/// What the line of an `http` record says: so many bytes for a link, at a moment, in seconds since 1970.
+#[derive(Clone, Copy, Debug, PartialEq, Eq)]
+pub struct HttpLine {
+    pub link: u32,
+    pub moment: u64,
+    pub len: u32,
+}
+
 /// What a line of a script says.
 #[derive(Clone, Copy, Debug, PartialEq, Eq)]
 pub enum Line {
-    Http { link: u32, moment: u64, len: u32 },
+    Http(HttpLine),
     Step { drive: u32, moment: u64 },
     End,
 }
@@ -24,10 +32,10 @@ const LAST_MOMENT: u64 = 253_402_300_799;
 const LONGEST: u64 = 2_147_483_648;
 
 // What the words behind `http` say.
-fn http_of(words: &[u8]) -> Option<(u32, u64, u32)>
+fn http_of(words: &[u8]) -> Option<HttpLine>
     ensures { MatchOption result
         ((link moment len : ℕ) → IsHttp link moment len → http_words link moment len ≢ words.now)
-        (λ h. IsHttp h.0 h.1 h.2 × (http_words h.0 h.1 h.2 ≡ words.now)) }
+        (λ h. IsHttp h.link h.moment h.len × (http_words h.link h.moment h.len ≡ words.now)) }
 {
     let Some((link, words)) = first_part(words, b' ') else {
         return None;
@@ -44,7 +52,11 @@ fn http_of(words: &[u8]) -> Option<(u32, u64, u32)>
     let Some(len) = number_of(len, LONGEST) else {
         return None;
     };
-    Some((link as u32, moment, len as u32))
+    Some(HttpLine {
+        link: link as u32,
+        moment,
+        len: len as u32,
+    })
 }
 
 // The number of the drive of this name.
@@ -87,10 +99,10 @@ pub fn line_of(line: &[u8], site: &ValidSite) -> Option<Line>
         return None;
     };
     if word == b"http".as_slice() {
-        let Some((link, moment, len)) = http_of(words) else {
+        let Some(http) = http_of(words) else {
             return None;
         };
-        return Some(Line::Http { link, moment, len });
+        return Some(Line::Http(http));
     }
     if word == b"step".as_slice() {
         let Some((drive, moment)) = step_of(words, site) else {

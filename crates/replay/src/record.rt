@@ -8,12 +8,11 @@ ghost use Rattle.replay.specs.Script.{ended};
 ghost use Rattle.replay.specs.Outcome.{world, Turns, TurnsAfter, TookLf, status_of, unwritten_status};
 
 use crate::feeding::{FeedEnd, feed_record};
+use crate::front::Front;
 use crate::intake::{LINE, LineEnd, Stop, take_byte, take_line};
-use crate::line::{Line, line_of};
+use crate::line::{HttpLine, Line, line_of};
 use crate::output::Unwritten;
-use crate::service::Service;
 use crate::status::Status;
-use links::Links;
 use outside::{Sink, Source};
 use std::alloc::Global;
 
@@ -57,30 +56,25 @@ fn last_lf<S: Source>(script: &mut S, taken: &mut u64) -> Option<Status>
 // An `http` record behind its line.
 fn http_record<S: Source, K: Sink>(
     alloc: Global,
-    service: &mut Service,
-    links: &mut Links,
+    front: &mut Front,
     script: &mut S,
     taken: &mut u64,
     out: &mut K,
     buffer: &mut [u8],
-    link: u32,
-    moment: u64,
-    len: u32,
+    line: HttpLine,
 ) -> Option<Status>
-    requires http { IsHttp link moment len }
-    requires begun { length (ended (http_text link moment len)) ≤ taken.old }
+    requires http { IsHttp line.link line.moment line.len }
+    requires begun { length (ended (http_text line.link line.moment line.len)) ≤ taken.old }
     requires within { taken.old ≤ budget }
     requires buffer { 0 < length buffer.old }
-    ensures turns { (before : List Turn) → StandFor links.old service.old.archive.site.limits.file before
-        → TurnsAfter result links.new service.old.archive service.new.archive before (ended (http_text link moment len))
+    ensures turns { (before : List Turn) → StandFor front.old.links front.old.service.archive.site.limits.file before
+        → TurnsAfter result front.new.links front.old.service.archive front.new.service.archive before (ended (http_text line.link line.moment line.len))
         (world (S.left script.old) taken.old (S.faults script.old) (K.written out.old) (K.faults out.old))
         (world (S.left script.new) taken.new (S.faults script.new) (K.written out.new) (K.faults out.new)) }
     ensures later { (S.faults script.old ≤ S.faults script.new) × (K.faults out.old ≤ K.faults out.new) }
     ensures within { taken.new ≤ budget }
 {
-    match feed_record(
-        alloc, service, links, script, taken, out, buffer, link, moment, len,
-    ) {
+    match feed_record(alloc, front, script, taken, out, buffer, line) {
         FeedEnd::All => last_lf(script, taken),
         FeedEnd::Part(why) => Some(stopped(why, *taken)),
         FeedEnd::Unanswered(why) => Some(unwritten(why)),
@@ -90,8 +84,7 @@ fn http_record<S: Source, K: Sink>(
 /// Reads one record and answers what it completes, or ends the script. `buffer` is room for a piece of a record's bytes.
 pub fn one_record<S: Source, K: Sink>(
     alloc: Global,
-    service: &mut Service,
-    links: &mut Links,
+    front: &mut Front,
     script: &mut S,
     taken: &mut u64,
     out: &mut K,
@@ -99,8 +92,8 @@ pub fn one_record<S: Source, K: Sink>(
 ) -> Option<Status>
     requires within { taken.old ≤ budget }
     requires buffer { 0 < length buffer.old }
-    ensures turns { (before : List Turn) → StandFor links.old service.old.archive.site.limits.file before
-        → Turns result links.new service.old.archive service.new.archive before
+    ensures turns { (before : List Turn) → StandFor front.old.links front.old.service.archive.site.limits.file before
+        → Turns result front.new.links front.old.service.archive front.new.service.archive before
         (world (S.left script.old) taken.old (S.faults script.old) (K.written out.old) (K.faults out.old))
         (world (S.left script.new) taken.new (S.faults script.new) (K.written out.new) (K.faults out.new)) }
     ensures later { (S.faults script.old ≤ S.faults script.new) × (K.faults out.old ≤ K.faults out.new) }
@@ -111,13 +104,11 @@ pub fn one_record<S: Source, K: Sink>(
     match take_line(script, taken, &mut line) {
         LineEnd::Stopped(why) => Some(stopped(why, *taken)),
         LineEnd::Long => Some(Status::Script { offset: start }),
-        LineEnd::Whole(n) => match line_of(&line[..n], service.archive.site()) {
+        LineEnd::Whole(n) => match line_of(&line[..n], front.service.archive.site()) {
             None => Some(Status::Script { offset: start }),
             Some(Line::End) => Some(Status::Ok),
             Some(Line::Step { .. }) => Some(Status::NotBuilt { offset: start }),
-            Some(Line::Http { link, moment, len }) => http_record(
-                alloc, service, links, script, taken, out, buffer, link, moment, len,
-            ),
+            Some(Line::Http(http)) => http_record(alloc, front, script, taken, out, buffer, http),
         },
     }
 }

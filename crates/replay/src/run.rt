@@ -4,10 +4,9 @@ ghost use Rattle.links.specs.Standing.{LinksStand};
 ghost use Rattle.replay.specs.Output.{fresh};
 ghost use Rattle.replay.specs.Outcome.{Replays};
 
+use crate::front::Front;
 use crate::record::one_record;
-use crate::service::Service;
 use crate::status::Status;
-use links::Links;
 use outside::{Sink, Source};
 use std::alloc::Global;
 
@@ -17,21 +16,20 @@ const PIECE: usize = 16_384;
 // Reads a script up to its end, and writes what an archive and links that have kept nothing yet answer.
 fn run_records<S: Source, K: Sink>(
     alloc: Global,
-    service: &mut Service,
-    links: &mut Links,
+    front: &mut Front,
     script: &mut S,
     out: &mut K,
     buffer: &mut [u8],
 ) -> Status
-    requires archive { service.old.archive ≡ fresh service.old.archive.site }
-    requires links { LinksStand links.old service.old.archive.site.limits.file (λ link. []) (λ link. []) }
+    requires archive { front.old.service.archive ≡ fresh front.old.service.archive.site }
+    requires links { LinksStand front.old.links front.old.service.archive.site.limits.file (λ link. []) (λ link. []) }
     requires buffer { 0 < length buffer.old }
-    ensures { Replays result service.old.archive.site (S.left script.old) (S.left script.new) (S.faults script.old) (S.faults script.new)
+    ensures { Replays result front.old.service.archive.site (S.left script.old) (S.left script.new) (S.faults script.old) (S.faults script.new)
         (K.written out.old) (K.written out.new) (K.faults out.old) (K.faults out.new) }
 {
     let mut taken = 0;
     'records: loop {
-        if let Some(status) = one_record(alloc, service, links, script, &mut taken, out, buffer) {
+        if let Some(status) = one_record(alloc, front, script, &mut taken, out, buffer) {
             return status;
         }
     }
@@ -41,20 +39,17 @@ fn run_records<S: Source, K: Sink>(
 /// read.
 pub fn run_script<S: Source, K: Sink>(
     alloc: Global,
-    service: &mut Service,
+    front: &mut Front,
     script: &mut S,
     out: &mut K,
 ) -> Status
-    requires { service.old.archive ≡ fresh service.old.archive.site }
-    ensures { Replays result service.old.archive.site (S.left script.old) (S.left script.new) (S.faults script.old) (S.faults script.new)
+    requires archive { front.old.service.archive ≡ fresh front.old.service.archive.site }
+    requires links { LinksStand front.old.links front.old.service.archive.site.limits.file (λ link. []) (λ link. []) }
+    ensures { Replays result front.old.service.archive.site (S.left script.old) (S.left script.new) (S.faults script.old) (S.faults script.new)
         (K.written out.old) (K.written out.new) (K.faults out.old) (K.faults out.new) }
 {
-    let Ok(mut links) = Links::new(alloc, service.archive.site().limits().file) else {
-        return Status::NoMemory;
-    };
-    let mut buffer = match vec![in alloc; 0u8; PIECE] {
-        Ok(buffer) => buffer,
-        Err(_) => return Status::NoMemory,
-    };
-    run_records(alloc, service, &mut links, script, out, &mut buffer)
+    match vec![in alloc; 0u8; PIECE] {
+        Ok(mut buffer) => run_records(alloc, front, script, out, &mut buffer),
+        Err(_) => Status::NoMemory,
+    }
 }

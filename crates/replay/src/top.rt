@@ -4,8 +4,8 @@ ghost use Rattle.replay.specs.Outcome.{Replays};
 ghost use Rattle.replay.specs.Output.{fresh};
 ghost use Rattle.replay.specs.Top.{handed, Runs, RunsWhole};
 
+use crate::front::Front;
 use crate::run::run_script;
-use crate::service::Service;
 use crate::site::read_archive;
 use crate::status::Status;
 use crate::words::is_replay_form;
@@ -25,8 +25,8 @@ fn run_archive<S: Source, K: Sink>(
     ensures { Replays result archive.site (S.left script.old) (S.left script.new) (S.faults script.old) (S.faults script.new)
         (K.written out.old) (K.written out.new) (K.faults out.old) (K.faults out.new) }
 {
-    match Service::new(alloc, archive) {
-        Ok(mut service) => run_script(alloc, &mut service, script, out),
+    match Front::new(alloc, archive) {
+        Ok(mut front) => run_script(alloc, &mut front, script, out),
         Err(_) => Status::NoMemory,
     }
 }

@@ -23,6 +23,6 @@ returns-in-Err-clause-feeds g c = λ limit before bytes events h.
       more = goes_on.0;
       run = goes_on.1;
       stands = tt;
-      answered = frames_none c.args.service.now.archive (g.K.Sink.written c.args.out.now) (told_on c.args.link c.args.moment goes_on.0);
+      answered = frames_none c.args.front.now.service.archive (g.K.Sink.written c.args.out.now) (told_on c.args.link c.args.moment goes_on.0);
       keeps = tt;
     }

@@ -9,7 +9,7 @@ use Rattle.replay.proofs.feeding.feed_record.Goals as goal
 
 pub loop-wanted-init : goal.loop-wanted-init
 loop-wanted-init g c = record {
-  going = λ before h. going_none c.args.links.now c.args.service.now.archive before c.args.link c.args.moment c.args.len _ (c.begins_empty.ensures c.args.links.now c.args.service.now.archive.site.limits.file before c.args.link c.args.moment h);
+  going = λ before h. going_none c.args.front.now.links c.args.front.now.service.archive before c.args.line.link c.args.line.moment c.args.line.len _ (c.begins_empty.ensures c.args.front.now.links c.args.front.now.service.archive.site.limits.file before c.args.line.link c.args.line.moment h);
   reads = omega arith;
   writes = omega arith;
   within = omega arith;
@@ -17,21 +17,21 @@ loop-wanted-init g c = record {
 
 pub returns-in_default-clause-delivers : goal.returns-in_default-clause-delivers
 returns-in_default-clause-delivers g c = λ before h.
-    let s = going_roomy c.loop-wanted.links c.reserve.new.self _ _ before c.args.link c.args.moment _ c.args.len _ _ c.reserve.ensures.stands (c.loop-wanted.invariant.going before h) in
-    delivers_part c.reserve.new.self _ _ before c.args.link c.args.moment _ c.args.len _ _ s Memory (g.S.Source.left c.loop-wanted.script) c.loop-wanted.taken (g.S.Source.faults c.loop-wanted.script)
+    let s = going_roomy c.loop-wanted.front.links c.reserve.new.self _ _ before c.args.line.link c.args.line.moment _ c.args.line.len _ _ c.reserve.ensures.stands (c.loop-wanted.invariant.going before h) in
+    delivers_part c.reserve.new.self _ _ before c.args.line.link c.args.line.moment _ c.args.line.len _ _ s Memory (g.S.Source.left c.loop-wanted.script) c.loop-wanted.taken (g.S.Source.faults c.loop-wanted.script)
     (Took-none (g.S.Source.left c.loop-wanted.script) c.loop-wanted.taken) tt
 
 pub returns-in-Err-clause-delivers : goal.returns-in-Err-clause-delivers
 returns-in-Err-clause-delivers g c = λ before h.
-    let s = going_roomy c.loop-wanted.links c.reserve.new.self _ _ before c.args.link c.args.moment _ c.args.len _ _ c.in-Ok.ensures.stands (c.loop-wanted.invariant.going before h) in
-    delivers_part c.reserve.new.self _ _ before c.args.link c.args.moment _ c.args.len _ _ s c.in-Err.why (g.S.Source.left c.take_piece.new.script) c.take_piece.new.taken (g.S.Source.faults c.take_piece.new.script)
+    let s = going_roomy c.loop-wanted.front.links c.reserve.new.self _ _ before c.args.line.link c.args.line.moment _ c.args.line.len _ _ c.in-Ok.ensures.stands (c.loop-wanted.invariant.going before h) in
+    delivers_part c.reserve.new.self _ _ before c.args.line.link c.args.line.moment _ c.args.line.len _ _ s c.in-Err.why (g.S.Source.left c.take_piece.new.script) c.take_piece.new.taken (g.S.Source.faults c.take_piece.new.script)
     c.in-Err.ensures.took (stopped_since c.in-Err.why _ _ _ _ _ c.loop-wanted.invariant.reads c.in-Err.ensures.stopped)
 
 -- the piece stands at the front of the buffer
 pub returns-in-Err-feed_piece-clause-delivers : goal.returns-in-Err-feed_piece-clause-delivers
 returns-in-Err-feed_piece-clause-delivers g c = λ before h.
-    let s = going_roomy c.loop-wanted.links c.reserve.new.self _ _ before c.args.link c.args.moment _ c.args.len _ _ c.in-Ok.ensures.stands (c.loop-wanted.invariant.going before h) in
-    let f = c.in-Err-feed_piece.ensures.feeds c.args.service.now.archive.site.limits.file before s.bytes s.events s.stands in
+    let s = going_roomy c.loop-wanted.front.links c.reserve.new.self _ _ before c.args.line.link c.args.line.moment _ c.args.line.len _ _ c.in-Ok.ensures.stands (c.loop-wanted.invariant.going before h) in
+    let f = c.in-Err-feed_piece.ensures.feeds c.args.front.now.service.archive.site.limits.file before s.bytes s.events s.stands in
     let count = c.in-Ok-take_piece.count in
     let piece = c.take_piece.new.piece in
     let t = c.in-Ok-take_piece.ensures.took in
@@ -39,15 +39,15 @@ returns-in-Err-feed_piece-clause-delivers g c = λ before h.
     let took = subst (Took (g.S.Source.left c.loop-wanted.script) (g.S.Source.left c.take_piece.new.script) c.loop-wanted.taken c.take_piece.new.taken) (sym front) t.0 in
     let fits : length (take count (piece ++ drop c.min-most.result c.loop-wanted.buffer)) ≤ c.loop-wanted.wanted =
     omega (arith, t.2, c.take_piece.auto.piece, length-take count (piece ++ drop c.min-most.result c.loop-wanted.buffer), length-take c.min-most.result c.loop-wanted.buffer) in
-    delivers_unanswered c.reserve.new.self _ c.loop-wanted.service.archive before c.args.link c.args.moment c.loop-wanted.wanted c.args.len _ _ s c.feed_piece.new.links c.feed_piece.new.service.archive (take count (piece ++ drop c.min-most.result c.loop-wanted.buffer))
+    delivers_unanswered c.reserve.new.self _ c.loop-wanted.front.service.archive before c.args.line.link c.args.line.moment c.loop-wanted.wanted c.args.line.len _ _ s c.feed_piece.new.front.links c.feed_piece.new.front.service.archive (take count (piece ++ drop c.min-most.result c.loop-wanted.buffer))
     (g.S.Source.left c.take_piece.new.script) c.take_piece.new.taken (g.S.Source.faults c.take_piece.new.script) (g.K.Sink.written c.feed_piece.new.out) (g.K.Sink.faults c.feed_piece.new.out) took fits
     c.in-Err-feed_piece.why c.loop-wanted.invariant.writes f
 
 pub loop-wanted-preserved : goal.loop-wanted-preserved
 loop-wanted-preserved g c = record {
   going = λ before h.
-      let s = going_roomy c.loop-wanted.links c.reserve.new.self _ _ before c.args.link c.args.moment _ c.args.len _ _ c.in-Ok.ensures.stands (c.loop-wanted.invariant.going before h) in
-      let f = c.in_default-feed_piece.ensures.feeds c.args.service.now.archive.site.limits.file before s.bytes s.events s.stands in
+      let s = going_roomy c.loop-wanted.front.links c.reserve.new.self _ _ before c.args.line.link c.args.line.moment _ c.args.line.len _ _ c.in-Ok.ensures.stands (c.loop-wanted.invariant.going before h) in
+      let f = c.in_default-feed_piece.ensures.feeds c.args.front.now.service.archive.site.limits.file before s.bytes s.events s.stands in
       let count = c.in-Ok-take_piece.count in
       let piece = c.take_piece.new.piece in
       let t = c.in-Ok-take_piece.ensures.took in
@@ -56,10 +56,10 @@ loop-wanted-preserved g c = record {
       let counted : length (take count (piece ++ drop c.min-most.result c.loop-wanted.buffer)) ≡ count = omega (arith, ap length front, length-take count piece, t.2) in
       let fits : length (take count (piece ++ drop c.min-most.result c.loop-wanted.buffer)) ≤ c.loop-wanted.wanted =
       omega (arith, t.2, c.take_piece.auto.piece, length-take count (piece ++ drop c.min-most.result c.loop-wanted.buffer), length-take c.min-most.result c.loop-wanted.buffer) in
-      subst (λ (k : ℕ). Going c.feed_piece.new.links c.args.service.now.archive c.feed_piece.new.service.archive before c.args.link c.args.moment (c.loop-wanted.wanted - k) c.args.len
+      subst (λ (k : ℕ). Going c.feed_piece.new.front.links c.args.front.now.service.archive c.feed_piece.new.front.service.archive before c.args.line.link c.args.line.moment (c.loop-wanted.wanted - k) c.args.line.len
       (world (g.S.Source.left c.args.script.now) c.args.taken.now (g.S.Source.faults c.args.script.now) (g.K.Sink.written c.args.out.now) (g.K.Sink.faults c.args.out.now))
       (world (g.S.Source.left c.take_piece.new.script) c.take_piece.new.taken (g.S.Source.faults c.take_piece.new.script) (g.K.Sink.written c.feed_piece.new.out) (g.K.Sink.faults c.feed_piece.new.out))) counted
-      (going_on c.reserve.new.self _ c.loop-wanted.service.archive before c.args.link c.args.moment c.loop-wanted.wanted c.args.len _ _ s c.feed_piece.new.links c.feed_piece.new.service.archive (take count (piece ++ drop c.min-most.result c.loop-wanted.buffer))
+      (going_on c.reserve.new.self _ c.loop-wanted.front.service.archive before c.args.line.link c.args.line.moment c.loop-wanted.wanted c.args.line.len _ _ s c.feed_piece.new.front.links c.feed_piece.new.front.service.archive (take count (piece ++ drop c.min-most.result c.loop-wanted.buffer))
       (g.S.Source.left c.take_piece.new.script) c.take_piece.new.taken (g.S.Source.faults c.take_piece.new.script) (g.K.Sink.written c.feed_piece.new.out) (g.K.Sink.faults c.feed_piece.new.out) took fits tt f);
   reads = omega arith;
   writes = omega arith;

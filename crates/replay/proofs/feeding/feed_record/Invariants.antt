@@ -8,8 +8,8 @@ use Rattle.replay.proofs.feeding.feed_record.Given as goal
 
 abbrev pub invariant-loop-wanted : goal.invariant-loop-wanted
 invariant-loop-wanted g l = record {
-  going : (before : List Turn) → StandFor l.initial.links l.initial.service.archive.site.limits.file before
-      → Going l.links l.initial.service.archive l.service.archive before l.link l.moment l.wanted l.len
+  going : (before : List Turn) → StandFor l.initial.front.links l.initial.front.service.archive.site.limits.file before
+      → Going l.front.links l.initial.front.service.archive l.front.service.archive before l.line.link l.line.moment l.wanted l.line.len
       (world (g.S.Source.left l.initial.script) l.initial.taken (g.S.Source.faults l.initial.script) (g.K.Sink.written l.initial.out) (g.K.Sink.faults l.initial.out))
       (world (g.S.Source.left l.script) l.taken (g.S.Source.faults l.script) (g.K.Sink.written l.out) (g.K.Sink.faults l.out));
   reads : g.S.Source.faults l.initial.script ≤ g.S.Source.faults l.script;

@@ -18,7 +18,7 @@ end_plain = (λ e. omega arith, (λ e. omega arith, (λ e. omega arith, tt)))
 
 -- a line whose first word is neither `http` nor `step` is none of a script's
 no_line : (site : Site) (word words line : List ℕ) → Without 32 word → line ≡ then_word word words → (codes "http" ≡ word → ⊥) → (codes "step" ≡ word → ⊥) → (l : Line) → text site l ≡ line → ⊥
-no_line site word words line plain split no_http no_step (Http link moment len) e = no_http (same_words 32 (codes "http") word (http_words link moment len) words http_plain plain (e ∙ split)).0
+no_line site word words line plain split no_http no_step (Http l) e = no_http (same_words 32 (codes "http") word (http_words l.link l.moment l.len) words http_plain plain (e ∙ split)).0
 no_line site word words line plain split no_http no_step (Step drive moment) e = no_step (same_words 32 (codes "step") word (step_words site drive moment) words step_plain plain (e ∙ split)).0
 no_line site word words line plain split no_http no_step End e = no_word 32 word words (codes "end") (sym (e ∙ split)) end_plain
 

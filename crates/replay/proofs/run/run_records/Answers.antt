@@ -6,7 +6,7 @@ use Rattle.replay.proofs.run.run_records.Goals as goal
 
 pub records-init : goal.records-init
 records-init g c = record {
-  ran = Ran-none c.args.links.now c.args.service.now.archive _ c.requires.links;
+  ran = Ran-none c.args.front.now.links c.args.front.now.service.archive _ c.requires.links;
   reads = omega arith;
   writes = omega arith;
   within = omega arith;
@@ -15,15 +15,15 @@ records-init g c = record {
 pub returns-in-Some : goal.returns-in-Some
 returns-in-Some g c =
     let h = c.records.invariant in
-    let stand = subst (λ s. StandFor c.records.links s.limits.file h.ran.turns) (sym (same_site h.ran)) h.ran.stands in
-    (c.one_record.new.taken, omega arith, Ran-ends_fresh c.records.links c.args.service.now.archive c.records.service.archive _ _ _ c.in-Some.status c.requires.archive h.ran h.reads h.writes (c.in-Some.ensures.turns h.ran.turns stand))
+    let stand = subst (λ s. StandFor c.records.front.links s.limits.file h.ran.turns) (sym (same_site h.ran)) h.ran.stands in
+    (c.one_record.new.taken, omega arith, Ran-ends_fresh c.records.front.links c.args.front.now.service.archive c.records.front.service.archive _ _ _ c.in-Some.status c.requires.archive h.ran h.reads h.writes (c.in-Some.ensures.turns h.ran.turns stand))
 
 pub records-preserved : goal.records-preserved
 records-preserved g c =
     let h = c.records.invariant in
-    let stand = subst (λ s. StandFor c.records.links s.limits.file h.ran.turns) (sym (same_site h.ran)) h.ran.stands in
+    let stand = subst (λ s. StandFor c.records.front.links s.limits.file h.ran.turns) (sym (same_site h.ran)) h.ran.stands in
     record {
-      ran = Ran-more c.records.links _ c.args.service.now.archive c.records.service.archive _ _ _ _ h.ran (c.in_default.ensures.turns h.ran.turns stand);
+      ran = Ran-more c.records.front.links _ c.args.front.now.service.archive c.records.front.service.archive _ _ _ _ h.ran (c.in_default.ensures.turns h.ran.turns stand);
       reads = omega arith;
       writes = omega arith;
       within = omega arith;
@@ -32,6 +32,6 @@ records-preserved g c =
 pub records-smaller : goal.records-smaller
 records-smaller g c =
     let h = c.records.invariant in
-    let stand = subst (λ s. StandFor c.records.links s.limits.file h.ran.turns) (sym (same_site h.ran)) h.ran.stands in
+    let stand = subst (λ s. StandFor c.records.front.links s.limits.file h.ran.turns) (sym (same_site h.ran)) h.ran.stands in
     let x = c.in_default.ensures.turns h.ran.turns stand in
     omega (arith, x.took.count, spelling_positive (feed_of x.turn), c.in_default.ensures.within)

@@ -6,7 +6,7 @@ use Rattle.replay.proofs.run.run_records.Given as goal
 
 abbrev pub invariant-records : goal.invariant-records
 invariant-records g l = record {
-  ran : Ran l.links l.initial.service.archive l.service.archive
+  ran : Ran l.front.links l.initial.front.service.archive l.front.service.archive
       (world (g.S.Source.left l.initial.script) 0 (g.S.Source.faults l.initial.script) (g.K.Sink.written l.initial.out) (g.K.Sink.faults l.initial.out))
       (world (g.S.Source.left l.script) l.taken (g.S.Source.faults l.script) (g.K.Sink.written l.out) (g.K.Sink.faults l.out));
   reads : g.S.Source.faults l.initial.script ≤ g.S.Source.faults l.script;
