@@ -21,4 +21,6 @@ pub use routed::Routed;
 pub use router::Routes;
 
 #[cfg(test)]
+mod reply_tests;
+#[cfg(test)]
 mod tests;

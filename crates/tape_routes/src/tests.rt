@@ -1,22 +1,16 @@
-// Requests and replies, with ample memory.
-ghost use Rattle.std.specs.Prelude.{IsTrue};
-ghost use Rattle.tape_routes.specs.Replies.{is_for_callers, HasContent};
-
-use crate::{Routed, Routes, reply_of};
+// Requests, with ample memory.
+use crate::{Routed, Routes};
 use blob::Blob;
 use conn::Request;
-use cta_model::{Answer, Ask, Look, Refusal, Who};
-use cta_site::{Rows, Text, ValidSite};
+use cta_model::{Ask, Look, Who};
+use cta_site::{Text, ValidSite};
 use site_json::read_site;
 use std::alloc::{AllocError, Global};
-use std::sync::Arc;
-use std::test::Fail;
-use wire_http::{Kind, Reply, write_reply};
 
 const SITE: &str =
     r#"{"classes":[{"copies":1,"name":"raw","vo":"atlas"}],"defaultPolicy":"std","directories":[{"class":"raw","path":"/atlas"}],"drives":[{"library":"L1","name":"d0"},{"library":"L1","name":"d1"}],"endpoint":"https://tape.example.org/api/v1","libraries":["L1"],"limits":{"archiveBytes":100,"archiveFiles":1,"batchFiles":10,"buffer":1000,"file":1000,"history":1000,"lifetime":60,"retrieveBytes":100,"retrieveFiles":1,"tries":3},"policies":[{"archiveMinAge":10,"archivePriority":1,"name":"std","retrieveMinAge":10,"retrievePriority":1}],"pools":[{"name":"p1","vo":"atlas"}],"repackPolicy":"std","routes":[{"class":"raw","copy":1,"pool":"p1"}],"sitename":"T1","tapes":[{"capacity":1000,"library":"L1","pool":"p1","state":"ACTIVE","vid":"V0"},{"capacity":1000,"library":"L1","pool":"p1","state":"ACTIVE","vid":"V1"}],"version":1,"vos":[{"name":"atlas","readDrives":1,"writeDrives":1}]}"#;
 
-fn site_of(alloc: Global) -> Option<ValidSite> {
+pub(crate) fn site_of(alloc: Global) -> Option<ValidSite> {
     match read_site(alloc, SITE.as_bytes()) {
         Ok(site) => site.check(alloc).ok(),
         Err(_) => None,
@@ -44,7 +38,7 @@ fn text(alloc: Global, text: &str) -> Result<Text, AllocError> {
     Ok(Text::of(String::from_str(alloc, text)?))
 }
 
-fn blob_of(alloc: Global, bytes: &str) -> Result<Option<Blob>, AllocError> {
+pub(crate) fn blob_of(alloc: Global, bytes: &str) -> Result<Option<Blob>, AllocError> {
     let bytes = Vec::from_slice(alloc, bytes.as_bytes())?;
     Ok(Blob::of(bytes).ok())
 }
@@ -104,27 +98,11 @@ fn looked(look: &Look) -> (&'static str, u32, usize) {
     }
 }
 
-fn allow_len(reply: &Reply) -> usize {
-    match &reply.allow {
-        Some(allow) => allow.as_str().len(),
-        None => 0,
-    }
-}
-
-// A reply says whether it has a body, its code and the length of its `Allow`.
-fn replied(reply: &Reply) -> (&'static str, u32, usize) {
-    let word = match &reply.kind {
-        Kind::Empty => "empty",
-        _ => "reply",
-    };
-    (word, u32::from(reply.code), allow_len(reply))
-}
-
 fn routed_word(routed: &Routed) -> (&'static str, u32, usize) {
     match routed {
         Routed::Ask(ask, _) => asked(ask),
         Routed::Look(look) => looked(look),
-        Routed::Reply(reply) => replied(reply),
+        Routed::Reply(reply) => ("reply", u32::from(reply.code), 0),
     }
 }
 
@@ -236,32 +214,13 @@ const ROUTES: [Row; 20] = [
     ("GET", "/admin/v1/queues", "", ("queues", 0, 0)),
 ];
 
-// Targets that no route has, methods that a route has not, and what parameters and bodies may be.
-const CORNERS: [Row; 40] = [
-    ("GET", "/", "", ("reply", 404, 0)),
-    ("GET", "/api/v1/Stage", "", ("reply", 404, 0)),
-    ("GET", "/api/v1/stage/", "", ("reply", 404, 0)),
-    ("GET", "/api/v1/stage/a/b", "", ("reply", 404, 0)),
-    ("POST", "/api/v1/stage//cancel", "", ("reply", 404, 0)),
-    ("POST", "/api/v1%2Fstage", "", ("reply", 404, 0)),
-    ("GET", "/data", "", ("reply", 404, 0)),
-    ("GET", "/data/", "", ("reply", 404, 0)),
-    ("GET", "/database", "", ("reply", 404, 0)),
-    ("HEAD", "/data", "", ("empty", 404, 0)),
-    ("HEAD", "/data/atlas/a", "", ("empty", 405, 16)),
-    ("head", "/data/atlas/a", "", ("reply", 405, 16)),
-    ("PATCH", "/data/%ff", "", ("reply", 405, 16)),
-    ("PUT", "/api/v1/stage/x", "", ("reply", 405, 11)),
-    ("GET", "/api/v1/stage", "", ("reply", 405, 4)),
-    ("POST", "/admin/v1/queues", "", ("reply", 405, 3)),
+// What parameters may be, and what names nothing. Targets and methods that are refused stand in the repository's `tests/cases`.
+const CORNERS: [Row; 18] = [
     ("GET", "/data/atlas%2fa", "", ("fetch", 0, 8)),
     ("GET", "/data//a", "", ("fetch", 0, 3)),
     ("GET", "/data/%C3%A9", "", ("fetch", 0, 3)),
     ("GET", "/data/50%", "", ("fetch", 0, 4)),
     ("GET", "/data/%zz", "", ("fetch", 0, 4)),
-    ("PUT", "/data/%ff", "", ("reply", 400, 0)),
-    ("GET", "/data/%C3", "", ("reply", 400, 0)),
-    ("DELETE", "/data/%ff", "", ("reply", 400, 0)),
     (
         "GET",
         "/api/v1/stage/00000000000080008000000000000007",
@@ -315,19 +274,6 @@ const CORNERS: [Row; 40] = [
         r#"{"vid":"V2"}"#,
         ("repack", NONE, 0),
     ),
-    ("POST", "/api/v1/stage", "", ("reply", 400, 0)),
-    (
-        "POST",
-        "/api/v1/archiveinfo",
-        r#"{"paths":[]}"#,
-        ("reply", 400, 0),
-    ),
-    (
-        "POST",
-        "/admin/v1/tape/V1/state",
-        r#"{"state":"active"}"#,
-        ("reply", 400, 0),
-    ),
 ];
 
 // The first of these rows that is routed otherwise.
@@ -358,172 +304,4 @@ fn routes(rt: HostRuntime) {
     let alloc = rt.alloc();
     let front = front_of(alloc).expect(&rt, "a site and the routes");
     assert_eq!(rt; wrong_route(alloc, front), None);
-}
-
-// The text of a reply.
-fn reply_text(alloc: Global, reply: &Reply) -> Vec<u8> {
-    write_reply(alloc, reply).unwrap_or(Vec::new(alloc))
-}
-
-// The text of the reply to a request that asks nothing.
-fn known_text(alloc: Global, front: &Front, request: Request) -> Vec<u8> {
-    match front.routes.route(alloc, &front.site, request) {
-        Ok(Routed::Reply(reply)) => reply_text(alloc, &reply),
-        _ => Vec::new(alloc),
-    }
-}
-
-fn refused_text(alloc: Global, front: &Front, method: &str, target: &str) -> Vec<u8> {
-    match request_of(alloc, method, target, "") {
-        Ok(Some(request)) => known_text(alloc, front, request),
-        _ => Vec::new(alloc),
-    }
-}
-
-const FIXED: [(&str, &str, &str); 6] = [
-    (
-        "GET",
-        "/.well-known/wlcg-tape-rest-api",
-        "HTTP/1.1 200 OK\r\nContent-Type: application/json\r\nContent-Length: 88\r\n\r\n{\"endpoints\":[{\"uri\":\"https://tape.example.org/api/v1\",\"version\":\"v1\"}],\"sitename\":\"T1\"}",
-    ),
-    (
-        "GET",
-        "/",
-        "HTTP/1.1 404 Not Found\r\nContent-Type: application/json\r\nContent-Length: 25\r\n\r\n{\"error\":\"no such route\"}",
-    ),
-    (
-        "POST",
-        "/data/a",
-        "HTTP/1.1 405 Method Not Allowed\r\nContent-Type: application/json\r\nContent-Length: 26\r\nAllow: DELETE, GET, PUT\r\n\r\n{\"error\":\"no such method\"}",
-    ),
-    (
-        "HEAD",
-        "/api/v1/stage/7",
-        "HTTP/1.1 405 Method Not Allowed\r\nContent-Length: 0\r\nAllow: DELETE, GET\r\n\r\n",
-    ),
-    (
-        "PUT",
-        "/data/%ff",
-        "HTTP/1.1 400 Bad Request\r\nContent-Type: application/json\r\nContent-Length: 20\r\n\r\n{\"error\":\"bad path\"}",
-    ),
-    (
-        "POST",
-        "/api/v1/stage",
-        "HTTP/1.1 400 Bad Request\r\nContent-Type: application/json\r\nContent-Length: 20\r\n\r\n{\"error\":\"bad body\"}",
-    ),
-];
-
-// The first target that is refused with another text.
-fn first_other(alloc: Global, front: &Front) -> Option<&'static str> {
-    for (method, target, wanted) in FIXED {
-        if refused_text(alloc, front, method, target).as_slice() != wanted.as_bytes() {
-            return Some(target);
-        }
-    }
-    None
-}
-
-// The same, on a site that is let go.
-fn other_text(alloc: Global, front: Front) -> Option<&'static str> {
-    first_other(alloc, &front)
-}
-
-#[test]
-fn fixed_replies(rt: HostRuntime) {
-    let alloc = rt.alloc();
-    let front = front_of(alloc).expect(&rt, "a site and the routes");
-    assert_eq!(rt; other_text(alloc, front), None);
-}
-
-// Whether an answer is replied to with this text.
-fn is_said(
-    alloc: Global,
-    site: &ValidSite,
-    answer: &Answer,
-    blob: Option<Arc<Blob>>,
-    wanted: &str,
-) -> bool
-    requires caller { IsTrue (is_for_callers answer.now) }
-    requires content { HasContent answer.now blob }
-{
-    let Ok(reply) = reply_of(alloc, site, answer, blob, false) else {
-        return false;
-    };
-    match write_reply(alloc, &reply) {
-        Ok(text) => text.as_slice() == wanted.as_bytes(),
-        Err(_) => false,
-    }
-}
-
-fn none<T>(alloc: Global) -> Rows<T> {
-    Rows::of(Vec::new(alloc))
-}
-
-fn done(alloc: Global, site: &ValidSite) -> bool {
-    let wanted = "HTTP/1.1 200 OK\r\nContent-Length: 0\r\n\r\n";
-    is_said(alloc, site, &Answer::Done, None, wanted)
-}
-
-fn stored(alloc: Global, site: &ValidSite) -> bool {
-    let answer = Answer::Stored {
-        evicted: none(alloc),
-    };
-    let wanted = "HTTP/1.1 201 Created\r\nContent-Length: 0\r\n\r\n";
-    is_said(alloc, site, &answer, None, wanted)
-}
-
-fn staged(alloc: Global, site: &ValidSite) -> bool {
-    let wanted =
-        "HTTP/1.1 201 Created\r\nContent-Type: application/json\r\nContent-Length: 52\r\nLocation: https://tape.example.org/api/v1/stage/00000000-0000-8000-8000-000000000007\r\n\r\n{\"requestId\":\"00000000-0000-8000-8000-000000000007\"}";
-    is_said(alloc, site, &Answer::Staged { id: 7 }, None, wanted)
-}
-
-fn bytes(alloc: Global, site: &ValidSite, blob: Blob) -> bool {
-    let answer = Answer::Bytes { sum: blob.sum() };
-    let wanted =
-        "HTTP/1.1 200 OK\r\nContent-Type: application/octet-stream\r\nContent-Length: 5\r\n\r\nhello";
-    match Arc::new(alloc, blob) {
-        Ok(blob) => is_said(alloc, site, &answer, Some(blob), wanted),
-        Err(_) => false,
-    }
-}
-
-fn nothing(alloc: Global, site: &ValidSite) -> bool {
-    let wanted = "HTTP/1.1 200 OK\r\nContent-Type: application/json\r\nContent-Length: 2\r\n\r\n[]";
-    is_said(alloc, site, &Answer::QueuesSeen(none(alloc)), None, wanted)
-}
-
-fn refused(alloc: Global, site: &ValidSite) -> bool {
-    let wanted =
-        "HTTP/1.1 501 Not Implemented\r\nContent-Type: application/json\r\nContent-Length: 21\r\n\r\n{\"error\":\"not built\"}";
-    is_said(
-        alloc,
-        site,
-        &Answer::Refused(Refusal::NotBuilt),
-        None,
-        wanted,
-    )
-}
-
-// Whether the answers without a content are replied to so.
-fn plain_said(alloc: Global, site: &ValidSite) -> bool {
-    done(alloc, site)
-        && stored(alloc, site)
-        && staged(alloc, site)
-        && nothing(alloc, site)
-        && refused(alloc, site)
-}
-
-// The same, and with a content too, on a site that is let go.
-fn all_said(alloc: Global, site: ValidSite, blob: Blob) -> (bool, bool) {
-    (plain_said(alloc, &site), bytes(alloc, &site, blob))
-}
-
-#[test]
-fn replies_to_answers(rt: HostRuntime) -> Result<(), Fail> {
-    let alloc = rt.alloc();
-    let blob = blob_of(alloc, "hello")?.ok_or("no blob")?;
-    let site = site_of(alloc).expect(&rt, "a site");
-    assert_eq!(rt; all_said(alloc, site, blob), (true, true));
-    Ok(())
 }
