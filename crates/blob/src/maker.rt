@@ -50,13 +50,9 @@ impl BlobMaker {
     pub fn push(&mut self, piece: &[u8]) -> Result<(), NoMemory>
         ensures { MatchResult result (λ _. self.new ≡ self.old ++ piece.now) (λ _. self.new ≡ self.old) }
     {
-        match self.content.extend_from_slice(piece) {
-            Ok(()) => {
-                self.hasher.update(piece);
-                Ok(())
-            }
-            Err(_) => Err(NoMemory),
-        }
+        self.content.extend_from_slice(piece)?;
+        self.hasher.update(piece);
+        Ok(())
     }
 
     /// The blob of what came, in constant time. NoMemory, which this way of keeping bytes never answers, gives the maker back

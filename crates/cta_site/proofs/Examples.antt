@@ -3,6 +3,7 @@ use Rattle.std.proofs.Common.{◌≡◌, ◌+◌, ◌<◌, ◌&&◌, ℕ, zero, 
 use Rattle.std.specs.Cmp.Lexicographic.{slice_cmp}
 use Rattle.std.specs.List.Sorted.{IsSortedBy}
 use Rattle.std.specs.Ordering.{is_lt, nat_cmp}
+use Rattle.std.proofs.lemmas.Bool.{and_parts}
 use Rattle.cta_site.specs.declared.site.Site.{Site}
 use Rattle.cta_site.specs.declared.site.Vo.{Vo}
 use Rattle.cta_site.specs.declared.site.Class.{Class}
@@ -17,7 +18,6 @@ use Rattle.cta_site.specs.declared.site.RuleKind.{RuleKind}
 use Rattle.cta_site.specs.declared.site.RuleKind.TheVariants.{Requester, Group}
 use Rattle.cta_site.specs.Listed.{rows}
 use Rattle.cta_site.specs.Numbering.{IsByName, IsInOrder}
-use Rattle.cta_site.proofs.Kept.{both}
 use Rattle.cta_site.proofs.Sets.{false_from_not}
 use Rattle.cta_site.specs.ValidSite.{IsValidSite}
 use Rattle.cta_site.specs.Sites.{small_site, small_directory, small_policy, large_site}
@@ -39,7 +39,7 @@ sorted_from : {A : Type 0} (below : A → A → Bool) (xs : List A) → steps_up
 sorted_from below [] e = λ k d low high. absurd (omega arith)
 sorted_from below (x ∷ []) e = λ k d low high. absurd (omega arith)
 sorted_from below (x ∷ y ∷ ys) e =
-    let parts = both (not (below y x)) (steps_up below (y ∷ ys)) e in
+    let parts = and_parts (not (below y x)) (steps_up below (y ∷ ys)) e in
     let rest = sorted_from below (y ∷ ys) parts.1 in
     λ k d low high. one_more below x y ys (false_from_not (below y x) parts.0) rest k d high
 

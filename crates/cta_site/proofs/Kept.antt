@@ -1,27 +1,11 @@
 -- What a site that breaks no rule keeps.
-use Rattle.std.proofs.Common.{◌≡◌, ℕ, Bool, Option, Some, None, true, false, refl, ◌&&◌}
-use Rattle.std.proofs.lemmas.Bool.{leb-true}
-use Rattle.std.specs.Option.{option_or}
+use Rattle.std.proofs.Common.{◌≡◌, None, true}
+use Rattle.std.proofs.lemmas.Bool.{and_parts, leb-true}
 use Rattle.cta_site.specs.declared.site.Site.{Site}
 use Rattle.cta_site.specs.Items.{unless, fault}
 use Rattle.cta_site.specs.Forms.{size_fault, are_texts, are_limits, fits_buffer, are_counts, are_store_counts, are_caller_counts, are_device_counts}
 use Rattle.cta_site.specs.WellFormed.{AreCounts}
-
-pub neither : {X : Type 0} (a b : Option X) → option_or a b ≡ None → (a ≡ None) × (b ≡ None)
-neither None b e = (refl, e)
-neither (Some x) b e = absurd (cc)
-
-pub kept : (rule : ℕ) (b : Bool) → fault rule (unless b) ≡ None → b ≡ true
-kept rule true e = refl
-kept rule false e = absurd (cc)
-
-pub no_item : (rule : ℕ) (i : Option ℕ) → fault rule i ≡ None → i ≡ None
-no_item rule None e = refl
-no_item rule (Some i) e = absurd (cc)
-
-pub both : (a b : Bool) → (a && b) ≡ true → (a ≡ true) × (b ≡ true)
-both true b e = (refl, e)
-both false b e = absurd (cc)
+use Rattle.cta_site.proofs.Unbroken.{neither, kept}
 
 -- the parts of rules 3 to 6
 pub record KeepsSizes (site : Site) : Type 0 where
@@ -39,16 +23,16 @@ keeps_sizes site e =
 
 pub counts_are : (site : Site) → are_counts site ≡ true → AreCounts site
 counts_are site e =
-    let a = both (are_store_counts site) _ e in
-    let b = both (are_caller_counts site) (are_device_counts site) a.1 in
-    let s = both _ _ a.0 in
-    let t = both _ _ s.1 in
-    let u = both _ _ t.1 in
-    let f = both _ _ b.0 in
-    let g = both _ _ f.1 in
-    let d = both _ _ b.1 in
-    let h = both _ _ d.1 in
-    let i = both _ _ h.1 in
+    let a = and_parts (are_store_counts site) _ e in
+    let b = and_parts (are_caller_counts site) (are_device_counts site) a.1 in
+    let s = and_parts _ _ a.0 in
+    let t = and_parts _ _ s.1 in
+    let u = and_parts _ _ t.1 in
+    let f = and_parts _ _ b.0 in
+    let g = and_parts _ _ f.1 in
+    let d = and_parts _ _ b.1 in
+    let h = and_parts _ _ d.1 in
+    let i = and_parts _ _ h.1 in
     record {
       vos = leb-true _ _ s.0;
       classes = leb-true _ _ t.0;

@@ -5,6 +5,7 @@ pub mod Places
 pub mod Sets
 pub mod Parts
 pub mod Moved
+pub mod Unbroken
 pub mod Kept
 pub mod Ordered
 pub mod Numbered

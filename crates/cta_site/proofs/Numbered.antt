@@ -1,6 +1,6 @@
 -- What a valid site keeps, part by part.
 use Rattle.std.proofs.Common.{◌≡◌, ◌∙◌, ◌≤◌, ◌∷◌, ℕ, List, [], Bool, true, None, length, refl, sym, ap, map, subst}
-use Rattle.std.proofs.lemmas.Bool.{leb-true}
+use Rattle.std.proofs.lemmas.Bool.{and_parts, leb-true}
 use Rattle.std.proofs.lemmas.List.Sorted.{IsPermutation-refl, length_permutation}
 use Rattle.std.specs.Prelude.{IsTrue, IsSome}
 use Rattle.std.specs.List.{AllByRecursion, list_all}
@@ -21,7 +21,7 @@ use Rattle.cta_site.specs.Faults.{first_fault, element_fault}
 use Rattle.cta_site.specs.Forms.{size_fault, form_fault, out_of_range, misnamed, is_name, is_vo, is_class, is_route, are_limits, are_byte_limits, are_number_limits, fits_buffer}
 use Rattle.cta_site.specs.Items.{is_within, is_among, first_failing, first_repeat, fault, unless}
 use Rattle.cta_site.specs.Names.{IsName, is_name_byte, AreAscending}
-use Rattle.cta_site.specs.Numbering.{IsInOrder, Rearranges}
+use Rattle.cta_site.specs.Numbering.{IsNumberedFrom, IsInOrder, Rearranges}
 use Rattle.cta_site.specs.Lookups.{place_by}
 use Rattle.cta_site.specs.Paths.{is_path}
 use Rattle.cta_site.specs.References as said
@@ -29,24 +29,25 @@ use Rattle.cta_site.specs.WellFormed as valid
 use Rattle.cta_site.specs.WellFormed.{IsWellFormed}
 use Rattle.cta_site.specs.ValidSite.{IsValidSite}
 use Rattle.cta_site.specs.Names as named
-use Rattle.cta_site.proofs.Kept.{neither, kept, no_item, both, keeps_sizes, counts_are}
+use Rattle.cta_site.proofs.Unbroken.{neither, kept, no_item}
+use Rattle.cta_site.proofs.Kept.{keeps_sizes, counts_are}
 use Rattle.cta_site.proofs.Ordered.{all_map, all_named, ascending, known_in, passes}
 use Rattle.cta_site.proofs.Reordered.{unmoved, rules_still}
 
 within : (low high n : ℕ) → is_within low high n ≡ true → (low ≤ n) × (n ≤ high)
-within low high n e = let b = both _ _ e in (leb-true _ _ b.0, leb-true _ _ b.1)
+within low high n e = let b = and_parts _ _ e in (leb-true _ _ b.0, leb-true _ _ b.1)
 
 limits_are : (l : Limits) → are_limits l ≡ true → fits_buffer l ≡ true → valid.AreLimits l
 limits_are l e fits =
-    let parts = both (are_byte_limits l) (are_number_limits l) e in
-    let a = both (is_within 1 2147483648 l.buffer) _ parts.0 in
-    let b = both (is_within 0 1073741824 l.file) _ a.1 in
-    let d = both (is_within 1 1125899906842624 l.archive_bytes) (is_within 1 1125899906842624 l.retrieve_bytes) b.1 in
-    let f = both (is_within 1 1000000 l.archive_files) _ parts.1 in
-    let g = both (is_within 1 1000000 l.retrieve_files) _ f.1 in
-    let h = both (is_within 1 1000 l.batch_files) _ g.1 in
-    let i = both (is_within 1 16 l.tries) _ h.1 in
-    let j = both (is_within 1 1000000 l.history) (is_within 0 3153600000 l.lifetime) i.1 in
+    let parts = and_parts (are_byte_limits l) (are_number_limits l) e in
+    let a = and_parts (is_within 1 2147483648 l.buffer) _ parts.0 in
+    let b = and_parts (is_within 0 1073741824 l.file) _ a.1 in
+    let d = and_parts (is_within 1 1125899906842624 l.archive_bytes) (is_within 1 1125899906842624 l.retrieve_bytes) b.1 in
+    let f = and_parts (is_within 1 1000000 l.archive_files) _ parts.1 in
+    let g = and_parts (is_within 1 1000000 l.retrieve_files) _ f.1 in
+    let h = and_parts (is_within 1 1000 l.batch_files) _ g.1 in
+    let i = and_parts (is_within 1 16 l.tries) _ h.1 in
+    let j = and_parts (is_within 1 1000000 l.history) (is_within 0 3153600000 l.lifetime) i.1 in
     let buffer = within 1 2147483648 l.buffer a.0 in
     let file = within 0 1073741824 l.file b.0 in
     let archive_bytes = within 1 1125899906842624 l.archive_bytes d.0 in
@@ -102,11 +103,11 @@ counts_stay file site r counts = record {
 
 all_true : {A : Type 0} (p : A → Bool) (xs : List A) → list_all p xs ≡ true → AllByRecursion (λ x. IsTrue (p x)) xs
 all_true p [] e = tt
-all_true p (x ∷ xs) e = let b = both (p x) (list_all p xs) e in (b.0, all_true p xs b.1)
+all_true p (x ∷ xs) e = let b = and_parts (p x) (list_all p xs) e in (b.0, all_true p xs b.1)
 
 name_is : (name : List ℕ) → is_name name ≡ true → IsName name
 name_is name e =
-    let b = both (is_within 1 64 (length name)) (list_all is_name_byte name) e in
+    let b = and_parts (is_within 1 64 (length name)) (list_all is_name_byte name) e in
     let long = within 1 64 (length name) b.0 in
     record { some = long.0; at_most = long.1; bytes = all_true is_name_byte name b.1 }
 
@@ -196,15 +197,15 @@ known_are file site r classes routes policies devices =
     record {
       class_vos = all_map (λ x. said.class_has_vo file x ≡ true) (λ (x : Class). valid.HasVo site x.vo) (λ x e. vo x.vo e) site.classes.items (passes (said.class_has_vo file) file.classes.items site.classes.items r.classes (no_item 17 _ a.0));
       pool_vos = all_map (λ x. said.pool_has_vo file x ≡ true) (λ (x : TapePool). valid.HasVo site x.vo) (λ x e. vo x.vo e) site.pools.items (passes (said.pool_has_vo file) file.pools.items site.pools.items r.pools (no_item 18 _ b.0));
-      route_classes = all_map (λ x. said.route_has_class file x ≡ true) (λ (x : Route). valid.HasClass site x.class) (λ x e. class x.class (both (is_among (named.class_names file) x.class) _ e).0) site.routes.items (passes (said.route_has_class file) file.routes.items site.routes.items (unmoved _ _ r.routes) (no_item 20 _ d.0));
+      route_classes = all_map (λ x. said.route_has_class file x ≡ true) (λ (x : Route). valid.HasClass site x.class) (λ x e. class x.class (and_parts (is_among (named.class_names file) x.class) _ e).0) site.routes.items (passes (said.route_has_class file) file.routes.items site.routes.items (unmoved _ _ r.routes) (no_item 20 _ d.0));
       route_pools = all_map (λ x. said.route_has_pool file x ≡ true) (λ (x : Route). valid.HasPool site x.pool) (λ x e. pool x.pool e) site.routes.items (passes (said.route_has_pool file) file.routes.items site.routes.items (unmoved _ _ r.routes) (no_item 21 _ f.0));
       default_policy = subst (λ n. valid.HasPolicy site n) (sym r.default_policy) (policy file.default_policy (kept 24 _ g.0));
       repack_policy = subst (λ n. valid.HasPolicy site n) (sym r.repack_policy) (policy file.repack_policy (kept 25 _ h.0));
       rule_policies = all_map (λ x. said.rule_has_policy file x ≡ true) (λ (x : Rule). valid.HasPolicy site x.policy) (λ x e. policy x.policy e) site.rules.items (passes (said.rule_has_policy file) file.rules.items site.rules.items (unmoved _ _ r.rules) (no_item 26 _ i.0));
-      tape_pools = all_map (λ x. said.tape_has_home file x ≡ true) (λ (x : Tape). valid.HasPool site x.pool) (λ x e. pool x.pool (both (is_among (named.pool_names file) x.pool) _ e).0) site.tapes.items tapes;
-      tape_libraries = all_map (λ x. said.tape_has_home file x ≡ true) (λ (x : Tape). valid.HasLibrary site x.library) (λ x e. library x.library (both (is_among (named.pool_names file) x.pool) _ e).1) site.tapes.items tapes;
+      tape_pools = all_map (λ x. said.tape_has_home file x ≡ true) (λ (x : Tape). valid.HasPool site x.pool) (λ x e. pool x.pool (and_parts (is_among (named.pool_names file) x.pool) _ e).0) site.tapes.items tapes;
+      tape_libraries = all_map (λ x. said.tape_has_home file x ≡ true) (λ (x : Tape). valid.HasLibrary site x.library) (λ x e. library x.library (and_parts (is_among (named.pool_names file) x.pool) _ e).1) site.tapes.items tapes;
       drive_libraries = all_map (λ x. said.drive_has_library file x ≡ true) (λ (x : Drive). valid.HasLibrary site x.library) (λ x e. library x.library e) site.drives.items (passes (said.drive_has_library file) file.drives.items site.drives.items r.drives l.0);
-      directory_classes = all_map (λ x. said.directory_has_class file x ≡ true) (λ (x : Directory). valid.HasClass site x.class) (λ x e. class x.class (both (is_path x.path) _ e).1) site.directories.items (passes (said.directory_has_class file) file.directories.items site.directories.items (unmoved _ _ r.directories) (no_item 30 _ k.1));
+      directory_classes = all_map (λ x. said.directory_has_class file x ≡ true) (λ (x : Directory). valid.HasClass site x.class) (λ x e. class x.class (and_parts (is_path x.path) _ e).1) site.directories.items (passes (said.directory_has_class file) file.directories.items site.directories.items (unmoved _ _ r.directories) (no_item 30 _ k.1));
     }
 
 pub rearranged_is_well_formed : (file site : Site) → first_fault file ≡ None → Rearranges file site → IsInOrder site → IsWellFormed site
@@ -267,8 +268,8 @@ in_order-bare site o = record {
 pub numbered_is_valid : (file site : Site) → first_fault file ≡ None → Rearranges file site → IsInOrder site → IsValidSite (bare_site site)
 numbered_is_valid file site e r order = record { rules = rules_still file site r e; in_order = in_order-bare site order }
 
-pub rearranges-bare : (file site : Site) → Rearranges file site → Rearranges file (bare_site site)
-rearranges-bare file site r = record {
+rearranges_bare : (file site : Site) → Rearranges file site → Rearranges (bare_site file) site
+rearranges_bare file site r = record {
   version = r.version;
   sitename = r.sitename;
   endpoint = r.endpoint;
@@ -287,6 +288,10 @@ rearranges-bare file site r = record {
   directories = r.directories;
   failures = r.failures;
 }
+
+-- the room of a file's lists does not count
+pub numbered_from_bare : (file site : Site) → IsNumberedFrom file site → IsNumberedFrom (bare_site file) site
+numbered_from_bare file site n = record { same = rearranges_bare file site n.same; in_order = n.in_order; bare = n.bare }
 
 pub counts-bare : (site : Site) → valid.AreCounts (bare_site site) → valid.AreCounts site
 counts-bare site n = record {

@@ -1,6 +1,6 @@
 -- A site that breaks no rule breaks none once its numbered lists are in order.
 use Rattle.std.proofs.Common.{◌≡◌, ◌∙◌, ◌+◌, ◌∷◌, ◌++◌, ◌||◌, ◌&&◌, ℕ, List, [], Bool, true, false, Option, Some, None, length, refl, sym, ap, inl, inr, map, not, cond, subst}
-use Rattle.std.proofs.lemmas.Bool.{cases_Bool}
+use Rattle.std.proofs.lemmas.Bool.{and_parts, cases_Bool}
 use Rattle.std.proofs.lemmas.Iterator.Adapters.{position_from-zero}
 use Rattle.std.proofs.lemmas.List.Sorted.{list_any-IsPermutation, IsPermutation-map, IsPermutation-refl, length_permutation}
 use Rattle.std.proofs.lemmas.Map.Keys.{IsDistinct-IsPermutation}
@@ -28,7 +28,8 @@ use Rattle.cta_site.specs.Names.{vo_names, class_names, pool_names, policy_names
 use Rattle.cta_site.specs.Numbering.{Rearranges}
 use Rattle.cta_site.specs.Paths.{is_path}
 use Rattle.cta_site.specs.References as said
-use Rattle.cta_site.proofs.Kept.{neither, kept, no_item, both, keeps_sizes}
+use Rattle.cta_site.proofs.Unbroken.{neither, kept, no_item}
+use Rattle.cta_site.proofs.Kept.{keeps_sizes}
 use Rattle.cta_site.proofs.Ordered.{no_repeat, passes, all_map}
 use Rattle.cta_site.proofs.Found.{among_found}
 use Rattle.cta_site.proofs.Sets.{is_among-push}
@@ -307,7 +308,7 @@ module _ (file site : Site) (r : Rearranges file site) where
       let b = neither (fault 21 (first_failing (said.route_has_pool file) file.routes.items)) _ a.1 in
       let d = neither (fault 22 (first_failing (said.route_keeps_vo file) file.routes.items)) (fault 23 (first_same said.same_ends file.routes.items)) b.1 in
       none_or _ _ (no_fault 20 _ (still (said.route_has_class file) (said.route_has_class site) (λ x h.
-      let parts = both (is_among (class_names file) x.class) (nat_le x.copy (copies_in (said.class_named file x.class))) h in
+      let parts = and_parts (is_among (class_names file) x.class) (nat_le x.copy (copies_in (said.class_named file x.class))) h in
       both_hold _ _ (among_still _ _ x.class classes_moved ∙ parts.0) (ap (nat_le x.copy) (copies_same classes x.class) ∙ parts.1)) _ _ (unmoved _ _ r.routes) (no_item 20 _ a.0)))
       (none_or _ _ (no_fault 21 _ (still (said.route_has_pool file) (said.route_has_pool site) (λ x h. among_still _ _ x.pool pools_moved ∙ h) _ _ (unmoved _ _ r.routes) (no_item 21 _ b.0)))
       (none_or _ _ (no_fault 22 _ (still (said.route_keeps_vo file) (said.route_keeps_vo site) (λ x h.
@@ -331,13 +332,13 @@ module _ (file site : Site) (r : Rearranges file site) where
       let b = neither (fault 29 (said.drive_item file)) (fault 30 (first_failing (said.directory_has_class file) file.directories.items)) a.1 in
       let d = neither (first_failing (said.drive_has_library file) file.drives.items) (first_failing (said.failure_has_drive file) file.failures.items) (no_item 29 _ b.0) in
       none_or _ _ (no_fault 28 _ (still (said.tape_has_home file) (said.tape_has_home site) (λ x h.
-      let parts = both (is_among (pool_names file) x.pool) (is_among file.libraries.items x.library) h in
+      let parts = and_parts (is_among (pool_names file) x.pool) (is_among file.libraries.items x.library) h in
       both_hold _ _ (among_still _ _ x.pool pools_moved ∙ parts.0) (among_still _ _ x.library r.libraries ∙ parts.1)) _ _ r.tapes (no_item 28 _ a.0)))
       (none_or _ _ (no_fault 29 _ (none_or _ _
       (still (said.drive_has_library file) (said.drive_has_library site) (λ x h. among_still _ _ x.library r.libraries ∙ h) _ _ r.drives d.0)
       (still (said.failure_has_drive file) (said.failure_has_drive site) (λ x h. among_still _ _ x.drive drives_moved ∙ h) _ _ (unmoved _ _ r.failures) d.1)))
       (no_fault 30 _ (still (said.directory_has_class file) (said.directory_has_class site) (λ x h.
-      let parts = both (is_path x.path) (is_among (class_names file) x.class) h in
+      let parts = and_parts (is_path x.path) (is_among (class_names file) x.class) h in
       both_hold _ _ parts.0 (among_still _ _ x.class classes_moved ∙ parts.1)) _ _ (unmoved _ _ r.directories) (no_item 30 _ b.1))))
 
 pub rules_still : (file site : Site) → Rearranges file site → first_fault file ≡ None → first_fault site ≡ None

@@ -1,6 +1,6 @@
 -- Routes of the copies of classes.
 use Rattle.std.proofs.Common.{◌≡◌, ◌∙◌, ◌≤◌, ◌<◌, ◌||◌, ◌&&◌, ℕ, zero, suc, List, [], ◌∷◌, Bool, true, false, Option, Some, None, length, get_or, refl, sym, ap, subst, arith, inl, inr, not}
-use Rattle.std.proofs.lemmas.Bool.{cases_Bool}
+use Rattle.std.proofs.lemmas.Bool.{and_parts, cases_Bool}
 use Rattle.std.proofs.lemmas.Bool.Decides.{Decides-eqb, nat_tests}
 use Rattle.std.proofs.lemmas.List.Sorted.{IsPermutation-refl}
 use Rattle.std.proofs.lemmas.Option.{slice_get_read}
@@ -20,7 +20,7 @@ use Rattle.cta_site.specs.References as said
 use Rattle.cta_site.specs.ValidSite.{IsValidSite}
 use Rattle.cta_site.specs.WellFormed.{IsWellFormed, HasCopy, HasPool}
 use Rattle.cta_site.proofs.Found.{among_found}
-use Rattle.cta_site.proofs.Kept.{neither, no_item, both}
+use Rattle.cta_site.proofs.Unbroken.{neither, no_item}
 use Rattle.cta_site.proofs.Known.{all_at, all_found, index_low}
 use Rattle.cta_site.proofs.Laws.{item_at}
 use Rattle.cta_site.proofs.Numbered.{well_formed}
@@ -53,7 +53,7 @@ route_copy site valid class copy has =
     let r = there (find (is_route_of name copy) site.routes.items) has in
     let within : HasCopy r.0 = all_found HasCopy (is_route_of name copy) site.routes.items r.0 valid.routes r.1 in
     let is : (bytes_eq r.0.class name && r.0.copy == copy) ≡ true = found_passes (is_route_of name copy) site.routes.items r.0 r.1 in
-    let same : r.0.copy ≡ copy = (Decides-eqb r.0.copy copy).0 (both _ _ is).1 in
+    let same : r.0.copy ≡ copy = (Decides-eqb r.0.copy copy).0 (and_parts _ _ is).1 in
     (subst (λ n. 1 ≤ n) same within.from, subst (λ n. n ≤ 4) same within.to)
 
 -- the route of a class is found by the class's name
@@ -80,10 +80,10 @@ routed site c copy low e =
 
 four_pass : (p : ℕ → Bool) → list_all p said.copy_numbers ≡ true → (p 1 ≡ true) × (p 2 ≡ true) × (p 3 ≡ true) × (p 4 ≡ true)
 four_pass p e =
-    let a = both (p 1) (p 2 && (p 3 && (p 4 && true))) e in
-    let b = both (p 2) (p 3 && (p 4 && true)) a.1 in
-    let d = both (p 3) (p 4 && true) b.1 in
-    (a.0, b.0, d.0, (both (p 4) true d.1).0)
+    let a = and_parts (p 1) (p 2 && (p 3 && (p 4 && true))) e in
+    let b = and_parts (p 2) (p 3 && (p 4 && true)) a.1 in
+    let d = and_parts (p 3) (p 4 && true) b.1 in
+    (a.0, b.0, d.0, (and_parts (p 4) true d.1).0)
 
 one_of_four : (site : Site) (c : Class) (copy : ℕ) → 1 ≤ copy → copy ≤ 4 → copy ≤ c.copies → said.class_has_routes site c ≡ true → IsSome (find (is_route_of c.name copy) site.routes.items)
 one_of_four site c copy from to low e = by_number copy from to low (four_pass (λ n. not (nat_le n c.copies) || said.has_one_route site c n) e)

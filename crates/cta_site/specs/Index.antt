@@ -15,7 +15,7 @@ use Rattle.cta_site.specs.declared.site.Directory.{Directory}
 use Rattle.cta_site.specs.declared.name_map.NameMap.{NameMap}
 use Rattle.cta_site.specs.declared.index.Index.{Index}
 use Rattle.cta_site.specs.declared.index.RouteIndex.{RouteIndex}
-use Rattle.cta_site.specs.declared.routes.RouteCounts.{RouteCounts}
+use Rattle.cta_site.specs.declared.references.RouteCounts.{RouteCounts}
 use Rattle.cta_site.specs.declared.tally.Tally.{Tally}
 use Rattle.cta_site.specs.Lookups.{place_by, is_route_of, is_rule_for}
 use Rattle.cta_site.specs.NameMap.{number_in, count_in}

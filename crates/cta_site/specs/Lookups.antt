@@ -134,6 +134,15 @@ abbrev pub vo_name : Option TapePool → List ℕ
 vo_name None = []
 vo_name (Some p) = p.vo
 
+-- the name of a pool, empty where there is no pool
+abbrev pub name_of_pool : Option TapePool → List ℕ
+name_of_pool None = []
+name_of_pool (Some p) = p.name
+
+-- the name of the pool of this number
+abbrev pub pool_name : Site → ℕ → List ℕ
+pool_name site pool = name_of_pool (slice_get site.pools.items pool)
+
 -- the virtual organisation of a pool
 abbrev pub vo_of_pool : Site → ℕ → ℕ
 vo_of_pool site pool = index_by (λ (v : Vo). v.name) site.vos.items (vo_name (slice_get site.pools.items pool))

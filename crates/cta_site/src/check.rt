@@ -1,5 +1,6 @@
 // Whether a site keeps its rules.
 ghost use Rattle.std.specs.Prelude.{◌≡◌, IfOk, MatchResult};
+ghost use Rattle.cta_site.specs.Bare.{bare_site};
 ghost use Rattle.cta_site.specs.Faults.{first_fault, IsCauseOf};
 ghost use Rattle.cta_site.specs.Numbering.{IsNumberedFrom};
 
@@ -20,6 +21,17 @@ pub enum SiteError {
     NoMemory,
 }
 
+impl From<NoMemory> for SiteError {
+    ghost use Rattle.std.specs.Prelude.{◌≡◌};
+    ghost use Rattle.cta_site.specs.declared.check.SiteError.TheVariants.{NoMemory};
+
+    ghost from_gives = { λ _ e. e ≡ NoMemory };
+
+    fn from(_error: NoMemory) -> SiteError {
+        SiteError::NoMemory
+    }
+}
+
 // The valid site of a site that keeps rules 3 to 30, its numbered lists in order.
 fn numbered(alloc: Global, mut site: Site) -> Result<ValidSite, NoMemory>
     requires { first_fault site ≡ None }
@@ -35,10 +47,9 @@ impl Site {
     fn test(&self, alloc: Global) -> Result<(), SiteError>
         ensures { MatchResult result (λ _. first_fault self.now ≡ None) (λ e. IsCauseOf e (first_fault self.now)) }
     {
-        match first_fault(alloc, self) {
-            Ok(None) => Ok(()),
-            Ok(Some((rule, item))) => Err(SiteError::Fault { rule, item }),
-            Err(_) => Err(SiteError::NoMemory),
+        match first_fault(alloc, self)? {
+            None => Ok(()),
+            Some((rule, item)) => Err(SiteError::Fault { rule, item }),
         }
     }
 
@@ -46,15 +57,11 @@ impl Site {
     /// that it breaks with the item that breaks it, and NoMemory where there is no memory for it. In the valid site each
     /// numbered list is the site's list in byte order of names; all else is the site's. Its cost is the size of the
     /// site's texts, and the number of elements times its logarithm.
+    #[tactic(auto, using(crate::proofs::Numbered::numbered_from_bare))]
     pub fn check(self, alloc: Global) -> Result<ValidSite, SiteError>
-        ensures { MatchResult result (λ valid. (first_fault self ≡ None) × IsNumberedFrom self valid) (λ e. IsCauseOf e (first_fault self)) }
+        ensures { MatchResult result (λ valid. (first_fault self ≡ None) × IsNumberedFrom (bare_site self) valid) (λ e. IsCauseOf e (first_fault self)) }
     {
-        match self.test(alloc) {
-            Ok(()) => match numbered(alloc, self) {
-                Ok(valid) => Ok(valid),
-                Err(_) => Err(SiteError::NoMemory),
-            },
-            Err(error) => Err(error),
-        }
+        self.test(alloc)?;
+        Ok(numbered(alloc, self)?)
     }
 }

@@ -5,13 +5,14 @@ ghost use Rattle.cta_site.specs.References as said;
 ghost use Rattle.cta_site.specs.Names.{class_names, drive_names, policy_names, pool_names, vo_names};
 ghost use Rattle.cta_site.specs.WellFormed.{AreCounts};
 
-use crate::forms::{counts_kept, fault, form_fault, item, size_fault, unless};
+use crate::forms::{counts_kept, form_fault, size_fault};
 use crate::index::places_of;
-use crate::keys::{library_repeat, repeat_of, route_repeat, rule_repeat};
-use crate::named::{Named, library_names, names_of};
+use crate::items::{fault, item, unless};
+use crate::keys::{repeat_of, route_repeat, rule_repeat};
+use crate::named::{Named, names_of};
 use crate::names::Names;
 use crate::no_memory::NoMemory;
-use crate::routes::{
+use crate::references::{
     class_without_routes, class_without_vo, directory_without_class, drive_without_library,
     failure_without_drive, pool_without_vo, route_across_vos, route_without_class,
     route_without_pool, rule_without_policy, tape_without_home,
@@ -44,7 +45,7 @@ fn device_repeat(alloc: Global, site: &Site) -> Result<Option<(u8, u32)>, NoMemo
     requires { AreCounts site.now }
     ensures { IfOk result (λ f. f ≡ said.device_repeat site.now) }
 {
-    let libraries = library_repeat(alloc, 13, site.libraries.as_slice())?;
+    let libraries = repeat_of(alloc, 13, site.libraries.as_slice())?;
     let tapes = repeat_of(alloc, 14, site.tapes.as_slice())?;
     let drives = repeat_of(alloc, 15, site.drives.as_slice())?;
     let directories = repeat_of(alloc, 16, site.directories.as_slice())?;
@@ -113,8 +114,7 @@ fn device_fault(alloc: Global, site: &Site) -> Result<Option<(u8, u32)>, NoMemor
 {
     let pools = known(alloc, site.pools.as_slice())?;
     let classes = known(alloc, site.classes.as_slice())?;
-    let names = library_names(alloc, site.libraries.as_slice())?;
-    let libraries = Names::of(alloc, names)?;
+    let libraries = known(alloc, site.libraries.as_slice())?;
     let drives = fault(29, drive_item(alloc, site, &libraries)?);
     let tapes = fault(
         28,

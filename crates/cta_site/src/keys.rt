@@ -1,36 +1,15 @@
 // Byte strings that tell routes and rules apart.
-ghost use Rattle.std.specs.Prelude.{◌≡◌, ◌<◌, ◌≤◌, ◌++◌, ◌∷◌, [], IfOk, length, map};
+ghost use Rattle.std.specs.Prelude.{◌≡◌, ◌<◌, ◌≤◌, IfOk, length, map};
 ghost use Rattle.cta_site.specs.Items.{fault, first_repeat, first_same};
 ghost use Rattle.cta_site.specs.Keys as said;
 ghost use Rattle.cta_site.specs.References.{same_ends, same_caller};
 
-use crate::forms::{fault, item};
-use crate::named::{Named, library_names, names_of};
+use crate::items::{fault, item};
+use crate::named::{Named, names_of};
 use crate::names::first_repeat;
 use crate::no_memory::NoMemory;
 use crate::site::{Route, Rule, RuleKind};
-use crate::text::Text;
 use std::alloc::Global;
-
-// Adds a byte.
-fn add(bytes: &mut Vec<u8>, byte: u8) -> Result<(), NoMemory>
-    ensures { IfOk result (λ _. bytes.new.items ≡ bytes.old.items ++ byte ∷ []) }
-{
-    match bytes.push(byte) {
-        Ok(()) => Ok(()),
-        Err(_) => Err(NoMemory),
-    }
-}
-
-// Adds bytes.
-fn add_all(bytes: &mut Vec<u8>, more: &[u8]) -> Result<(), NoMemory>
-    ensures { IfOk result (λ _. bytes.new.items ≡ bytes.old.items ++ more.now) }
-{
-    match bytes.extend_from_slice(more) {
-        Ok(()) => Ok(()),
-        Err(_) => Err(NoMemory),
-    }
-}
 
 // A text with each byte behind a 1, and a 0 behind all.
 fn closed_text(alloc: Global, text: &[u8]) -> Result<Vec<u8>, NoMemory>
@@ -38,10 +17,10 @@ fn closed_text(alloc: Global, text: &[u8]) -> Result<Vec<u8>, NoMemory>
 {
     let mut bytes = Vec::new(alloc);
     for byte in text {
-        add(&mut bytes, 1)?;
-        add(&mut bytes, *byte)?;
+        bytes.push(1)?;
+        bytes.push(*byte)?;
     }
-    add(&mut bytes, 0)?;
+    bytes.push(0)?;
     Ok(bytes)
 }
 
@@ -50,7 +29,7 @@ fn route_ends(alloc: Global, route: &Route) -> Result<Vec<u8>, NoMemory>
     ensures { IfOk result (λ bytes. bytes.items ≡ said.route_ends route.now) }
 {
     let mut bytes = closed_text(alloc, route.class.as_bytes())?;
-    add_all(&mut bytes, route.pool.as_bytes())?;
+    bytes.extend_from_slice(route.pool.as_bytes())?;
     Ok(bytes)
 }
 
@@ -69,8 +48,8 @@ fn rule_caller(alloc: Global, rule: &Rule) -> Result<Vec<u8>, NoMemory>
     ensures { IfOk result (λ bytes. bytes.items ≡ said.rule_caller rule.now) }
 {
     let mut bytes = Vec::new(alloc);
-    add(&mut bytes, kind_byte(rule.kind))?;
-    add_all(&mut bytes, rule.name.as_bytes())?;
+    bytes.push(kind_byte(rule.kind))?;
+    bytes.extend_from_slice(rule.name.as_bytes())?;
     Ok(bytes)
 }
 
@@ -81,10 +60,7 @@ fn all_route_ends(alloc: Global, routes: &[Route]) -> Result<Vec<Vec<u8>>, NoMem
     let mut keys = Vec::new(alloc);
     for route in routes {
         let key = route_ends(alloc, route)?;
-        match keys.push(key) {
-            Ok(()) => {}
-            Err(_) => return Err(NoMemory),
-        }
+        keys.push(key)?;
     }
     Ok(keys)
 }
@@ -96,10 +72,7 @@ fn all_rule_callers(alloc: Global, rules: &[Rule]) -> Result<Vec<Vec<u8>>, NoMem
     let mut keys = Vec::new(alloc);
     for rule in rules {
         let key = rule_caller(alloc, rule)?;
-        match keys.push(key) {
-            Ok(()) => {}
-            Err(_) => return Err(NoMemory),
-        }
+        keys.push(key)?;
     }
     Ok(keys)
 }
@@ -123,19 +96,6 @@ pub(crate) fn repeat_of<T: Named>(
     ensures { IfOk result (λ f. f ≡ fault rule (first_repeat (map T.name_of items.now))) }
 {
     let names = names_of(alloc, items)?;
-    repeat_in(alloc, rule, names.as_slice())
-}
-
-// The fault of libraries whose names are to differ.
-pub(crate) fn library_repeat(
-    alloc: Global,
-    rule: u8,
-    libraries: &[Text],
-) -> Result<Option<(u8, u32)>, NoMemory>
-    requires { length libraries.now ≤ 4096 }
-    ensures { IfOk result (λ f. f ≡ fault rule (first_repeat libraries.now)) }
-{
-    let names = library_names(alloc, libraries)?;
     repeat_in(alloc, rule, names.as_slice())
 }
 

@@ -12,6 +12,7 @@ mod check;
 mod faults;
 mod forms;
 mod index;
+mod items;
 mod keys;
 mod lookups;
 mod name_map;
@@ -20,16 +21,18 @@ mod names;
 mod no_memory;
 mod order;
 mod paths;
-mod routes;
+mod ranges;
+mod references;
 mod rows;
 mod site;
+mod spelling;
 mod tally;
 mod text;
-mod twin;
 mod valid_laws;
 mod valid_site;
 
 pub use check::SiteError;
+pub use items::{fault, is_within, unless};
 pub use no_memory::NoMemory;
 pub use paths::is_path;
 pub use rows::Rows;
@@ -37,6 +40,7 @@ pub use site::{
     CallKind, Class, Directory, Drive, Failure, Limits, Policy, Route, Rule, RuleKind, Site, Tape,
     TapePool, TapeState, Vo,
 };
+pub use spelling::{are_address_bytes, is_name};
 pub use text::Text;
 pub use valid_laws::{
     example_sites_are_valid, numbers_are_known, one_numbering, valid_is_well_formed,

@@ -13,17 +13,6 @@ pub(crate) struct NameMap {
     numbers: BTreeMap<Vec<u8>, u32>,
 }
 
-// The bytes of a name, in memory of their own.
-pub(crate) fn owned(alloc: Global, name: &[u8]) -> Result<Vec<u8>, NoMemory>
-    ensures { IfOk result (λ bytes. bytes.items ≡ name.now) }
-{
-    let mut bytes = Vec::new(alloc);
-    match bytes.extend_from_slice(name) {
-        Ok(()) => Ok(bytes),
-        Err(_) => Err(NoMemory),
-    }
-}
-
 impl NameMap {
     // No names.
     pub(crate) fn new(alloc: Global) -> NameMap
@@ -48,10 +37,8 @@ impl NameMap {
         if self.numbers.contains_key(name) {
             return Ok(());
         }
-        let name = owned(alloc, name)?;
-        match self.numbers.insert(name, number) {
-            Ok(_) => Ok(()),
-            Err(_) => Err(NoMemory),
-        }
+        let name = Vec::from_slice(alloc, name)?;
+        self.numbers.insert(name, number)?;
+        Ok(())
     }
 }

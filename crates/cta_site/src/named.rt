@@ -92,24 +92,7 @@ pub(crate) fn names_of<T: Named>(alloc: Global, items: &[T]) -> Result<Vec<&[u8]
 {
     let mut names = Vec::new(alloc);
     for item in items {
-        match names.push(item.name()) {
-            Ok(()) => {}
-            Err(_) => return Err(NoMemory),
-        }
-    }
-    Ok(names)
-}
-
-// The names of the libraries, in their order.
-pub(crate) fn library_names(alloc: Global, libraries: &[Text]) -> Result<Vec<&[u8]>, NoMemory>
-    ensures { IfOk result (λ names. map (λ n. n.now) names.items ≡ libraries.now) }
-{
-    let mut names = Vec::new(alloc);
-    for library in libraries {
-        match names.push(library.as_bytes()) {
-            Ok(()) => {}
-            Err(_) => return Err(NoMemory),
-        }
+        names.push(item.name())?;
     }
     Ok(names)
 }

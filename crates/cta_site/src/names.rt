@@ -35,10 +35,7 @@ impl<'a> Names<'a> {
     {
         let mut known = BTreeSet::new(alloc);
         for name in &names {
-            match known.insert(*name) {
-                Ok(_) => {}
-                Err(_) => return Err(NoMemory),
-            }
+            known.insert(*name)?;
         }
         Ok(Names { names, known })
     }
@@ -58,10 +55,8 @@ pub(crate) fn first_repeat(alloc: Global, names: &[&[u8]]) -> Result<Option<usiz
 {
     let mut seen = BTreeSet::new(alloc);
     for (place, name) in names.iter().enumerate() {
-        match seen.insert(*name) {
-            Ok(true) => {}
-            Ok(false) => return Ok(Some(place)),
-            Err(_) => return Err(NoMemory),
+        if !seen.insert(*name)? {
+            return Ok(Some(place));
         }
     }
     Ok(None)

@@ -1,11 +1,10 @@
 // Lists with room for more.
-ghost use Rattle.std.specs.Prelude.{◌≡◌, ◌+◌, ◌<◌, ◌≤◌, [], ◌∷◌, ◌++◌, length, IfOk, OnOk};
+ghost use Rattle.std.specs.Prelude.{◌≡◌, ◌+◌, ◌-◌, ◌<◌, ◌≤◌, [], ◌∷◌, ◌++◌, length, vec_capacity, vec_len, OnOk};
 ghost use Rattle.std.specs.List.Sorted.{IsPermutation};
 ghost use Rattle.cta_site.specs.Numbering.{IsByName};
 
 use crate::named::Named;
 use crate::no_memory::NoMemory;
-use crate::twin::Twin;
 use std::marker::Model;
 
 /// A list. Contracts see its items and the room that is left for more of them.
@@ -26,7 +25,8 @@ impl<T> Model for Rows<T> {
 impl<T> Rows<T> {
     /// The list of these items, with the room that the vector had. It takes no memory and constant time.
     pub fn of(items: Vec<T>) -> Rows<T>
-        ensures { result.items ≡ items.items }
+        ensures items { result.items ≡ items.items }
+        ensures room { result.room ≡ vec_capacity items - vec_len items }
     {
         Rows { inner: items }
     }
@@ -52,10 +52,8 @@ impl<T> Rows<T> {
         ensures room { OnOk result (more ≤ self.new.room) }
         ensures kept { self.old.room ≤ self.new.room }
     {
-        match self.inner.reserve(more as usize) {
-            Ok(()) => Ok(()),
-            Err(_) => Err(NoMemory),
-        }
+        self.inner.reserve(more as usize)?;
+        Ok(())
     }
 
     /// Adds an item behind the others, for which room is left. It takes no memory and constant time.
@@ -71,33 +69,13 @@ impl<T> Rows<T> {
     }
 }
 
-impl<T: Twin> Rows<T> {
-    // A list of equal items, in their order.
-    pub(crate) fn twin(&self) -> Result<Rows<T>, NoMemory>
-        ensures { IfOk result (λ rows. rows.items ≡ self.now.items) }
-    {
-        let items = self.inner.as_slice();
-        let mut twins = Vec::new(*self.inner.allocator());
-        for item in items {
-            let twin = item.twin()?;
-            match twins.push(twin) {
-                Ok(()) => {}
-                Err(_) => return Err(NoMemory),
-            }
-        }
-        Ok(Rows { inner: twins })
-    }
-}
-
 impl<T: Named> Rows<T> {
     // Puts the items in byte order of their names. NoMemory leaves them in their order. Its cost is the number of items times its logarithm.
     pub(crate) fn sort(&mut self) -> Result<(), NoMemory>
         ensures permutation { IsPermutation self.old.items self.new.items }
         ensures sorted { OnOk result (IsByName T.name_of self.new.items) }
     {
-        match self.inner.sort_by(|x, y| x.name().cmp(y.name())) {
-            Ok(()) => Ok(()),
-            Err(_) => Err(NoMemory),
-        }
+        self.inner.sort_by(|x, y| x.name().cmp(y.name()))?;
+        Ok(())
     }
 }

@@ -2,7 +2,6 @@
 ghost use Rattle.std.specs.Prelude.{◌≡◌, ◌<◌, ◌+◌, ◌^◌, ℕ, List, IfOk, bytes_eq, if◌then◌else◌};
 ghost use Rattle.cta_site.specs.NameMap.{count_in};
 
-use crate::name_map::owned;
 use crate::no_memory::NoMemory;
 use std::alloc::Global;
 use std::collections::BTreeMap;
@@ -36,10 +35,8 @@ impl Tally {
         ensures { IfOk result (λ _. (key : List ℕ) → count_in self.new key ≡ count_in self.old key + (if bytes_eq name.now key then 1 else 0)) }
     {
         let count = self.count(name);
-        let name = owned(alloc, name)?;
-        match self.counts.insert(name, count + 1) {
-            Ok(_) => Ok(()),
-            Err(_) => Err(NoMemory),
-        }
+        let name = Vec::from_slice(alloc, name)?;
+        self.counts.insert(name, count + 1)?;
+        Ok(())
     }
 }

@@ -51,9 +51,7 @@ impl Text {
     pub fn copy(&self) -> Result<Text, NoMemory>
         ensures { IfOk result (λ text. text ≡ self.now) }
     {
-        match self.inner.clone() {
-            Ok(inner) => Ok(Text { inner }),
-            Err(_) => Err(NoMemory),
-        }
+        let inner = self.inner.clone()?;
+        Ok(Text { inner })
     }
 }

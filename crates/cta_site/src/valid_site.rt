@@ -13,7 +13,6 @@ use crate::site::{
     Class, Directory, Drive, Failure, Limits, Policy, Route, Rule, Site, Tape, TapePool, Vo,
 };
 use crate::text::Text;
-use crate::twin::site_twin;
 use std::alloc::Global;
 use std::marker::Model;
 
@@ -276,13 +275,5 @@ impl ValidSite {
         ensures { result ≡ tape_of self.now vid.now }
     {
         self.index.tapes.number(vid)
-    }
-
-    /// An equal site. Its cost is the size of the site's texts and lists; NoMemory changes nothing.
-    pub fn copy(&self, alloc: Global) -> Result<ValidSite, NoMemory>
-        ensures { IfOk result (λ site. site ≡ self.now) }
-    {
-        let site = site_twin(&self.site)?;
-        ValidSite::of(alloc, site)
     }
 }

@@ -4,11 +4,7 @@ use Rattle.std.proofs.lemmas.List.Sorted.{ranks_by, answers_always}
 use Rattle.std.specs.Cmp.Lexicographic.{slice_cmp}
 use Rattle.std.specs.Ordering.{nat_cmp, is_lt}
 use Rattle.cta_site.proofs.rows.Rows.sort.Goals as goal
-use Rattle.cta_site.proofs.rows.Rows.sort.Goals.{in-Ok, in-Err}
 
 pub returns-clause-sorted : goal.returns-clause-sorted
 returns-clause-sorted g c =
-    elim c.match-sort_by.branch [
-      | in-Ok w ↦ rw w.result-is (w.in-Ok.ensures.sorted (λ x y. is_lt (slice_cmp nat_cmp (g.T.Named.name_of x) (g.T.Named.name_of y))) (ranks_by nat_list_cmp_total g.T.Named.name_of) (answers_always _ _ _ (λ f a r h called. search rules)))
-      | in-Err w ↦ rw w.result-is tt
-    ]
+    c.in_ok-sort_by.ensures.sorted (λ x y. is_lt (slice_cmp nat_cmp (g.T.Named.name_of x) (g.T.Named.name_of y))) (ranks_by nat_list_cmp_total g.T.Named.name_of) (answers_always _ _ _ (λ f a r h called. search rules))

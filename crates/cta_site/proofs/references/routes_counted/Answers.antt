@@ -2,8 +2,8 @@ use Rattle.std.proofs.Common.{◌≤◌, length, take, arith}
 use Rattle.std.proofs.lemmas.List.{length-take-le}
 use Rattle.cta_site.specs.Lookups.{is_route_of}
 use Rattle.cta_site.proofs.Counts.{of_class, of_no_class, count_next, filtered_few}
-use Rattle.cta_site.proofs.routes.routes_counted.Goals as goal
-use Rattle.cta_site.proofs.routes.routes_counted.Goals.{then-route-copy+in_ok-add, else-route-copy}
+use Rattle.cta_site.proofs.references.routes_counted.Goals as goal
+use Rattle.cta_site.proofs.references.routes_counted.Goals.{then-route-copy+in_ok-add, else-route-copy}
 
 pub add-requires : goal.add-requires
 add-requires c =

@@ -1,6 +1,6 @@
 use Rattle.std.proofs.Common.{sym}
 use Rattle.cta_site.proofs.Routed.{class_found, class_not_found}
-use Rattle.cta_site.proofs.routes.route_has_class.Goals as goal
+use Rattle.cta_site.proofs.references.route_has_class.Goals as goal
 
 pub returns-in-Some : goal.returns-in-Some
 returns-in-Some c =
