@@ -58,8 +58,8 @@ fn top_command<'a>(alloc: Global) -> Command<'a>
         .disable_version_flag(true)
 }
 
-/// `cta` with its three subcommands.
-pub fn cta_command<'a>(alloc: Global) -> Result<Command<'a>, AllocError>
+// `cta` with its three subcommands.
+pub(crate) fn cta_command<'a>(alloc: Global) -> Result<Command<'a>, AllocError>
     ensures { IfOk result (λ c. app_of c ≡ cta_app) }
 {
     top_command(alloc)

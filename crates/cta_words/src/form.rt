@@ -1,4 +1,6 @@
 // What the words of the command line ask for.
+use std::alloc::AllocError;
+
 /// A command line of one of the three forms, by the texts in its places. The program `cta` and its three forms are this
 /// project's own. Each text is a word as it was given: it is not empty and does not begin with `-`. A number stays the
 /// text that was given for it, which nothing here checks.
@@ -31,4 +33,15 @@ pub enum WordsError {
     Usage,
     /// There is no memory to read the words. It says nothing of the words.
     NoMemory,
+}
+
+impl From<AllocError> for WordsError {
+    ghost use Rattle.std.specs.Prelude.{◌≡◌};
+    ghost use Rattle.cta_words.specs.declared.form.WordsError.TheVariants.{NoMemory};
+
+    ghost from_gives = { λ _ e. e ≡ NoMemory };
+
+    fn from(_error: AllocError) -> WordsError {
+        WordsError::NoMemory
+    }
 }

@@ -52,8 +52,8 @@ fn mill_form<'a>(found: &ArgMatches<'a>) -> Option<Form<'a>>
     })
 }
 
-/// The form of the subcommand that was found and of the values of its places, where there is one.
-pub fn form_of<'a>(matches: &ArgMatches<'a>) -> Option<Form<'a>>
+// The form of the subcommand that was found and of the values of its places, where there is one.
+pub(crate) fn form_of<'a>(matches: &ArgMatches<'a>) -> Option<Form<'a>>
     ensures { option_map form_words result ≡ words_found (subcommand_rows_of matches.now) }
 {
     let (name, found) = matches.subcommand()?;

@@ -13,8 +13,8 @@ fn is_plain_word(word: &[u8]) -> bool
     }
 }
 
-/// That each word is not empty and begins with no `-`.
-pub fn are_plain(words: &[String]) -> bool
+// That each word is not empty and begins with no `-`.
+pub(crate) fn are_plain(words: &[String]) -> bool
     ensures { IsTrue result ↔ All (λ word. IsPlainWord (string_bytes word)) words.now }
 {
     words.iter().all(|word| is_plain_word(word.as_bytes()))

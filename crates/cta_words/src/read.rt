@@ -30,9 +30,7 @@ pub fn read_words<'a>(alloc: Global, words: &'a [String]) -> Result<Form<'a>, Wo
     if !are_plain(words) {
         return Err(WordsError::Usage);
     }
-    let Ok(command) = cta_command(alloc) else {
-        return Err(WordsError::NoMemory);
-    };
+    let command = cta_command(alloc)?;
     match command.try_get_matches_from(words) {
         Ok(matches) => form_of(&matches).ok_or(WordsError::Usage),
         Err(error) => Err(reason_of(&error)),

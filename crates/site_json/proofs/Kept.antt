@@ -1,28 +1,16 @@
 -- What a file has that keeps rules 2 to 7.
 use Rattle.std.proofs.Common.{◌≡◌, ◌≤◌, ℕ, List, [], Bool, true, false, Option, Some, None, length, refl, ◌||◌, arith}
-use Rattle.std.proofs.lemmas.Bool.{leb-true, le-leb}
+use Rattle.std.proofs.lemmas.Bool.{and_parts, leb-true, le-leb}
 use Rattle.std.specs.Prelude.{is_some, not, nat_le, codes}
-use Rattle.std.specs.Option.{option_or}
 use Rattle.serde_json.specs.Data.{Data}
 use Rattle.serde_json.specs.Find.{get}
 use Rattle.cta_site.specs.Items.{unless, fault, first_failing}
 use Rattle.site_json.specs.Members.{list_at, has_list, is_absent, list}
-use Rattle.site_json.specs.Elements.{is_vo, is_class, is_pool, is_route, is_policy, is_rule, is_library, is_tape, is_drive, is_directory, is_failure}
+use Rattle.site_json.specs.Elements.{tells_vo, tells_class, tells_pool, tells_route, tells_policy, tells_rule, tells_library, tells_tape, tells_drive, tells_directory, tells_failure}
 use Rattle.site_json.specs.File.{has_version, has_texts, has_limits, limits_in, fits_buffer, has_store_lists, has_caller_lists, has_device_lists, has_lists, bad_store, bad_caller, bad_device, bad_element, member_fault, object_fault}
 use Rattle.site_json.specs.Tested.{AreShort, AreGood}
-use Rattle.site_json.proofs.Tested.{both, passed}
-
-pub neither : {X : Type 0} (a b : Option X) → option_or a b ≡ None → (a ≡ None) × (b ≡ None)
-neither None b e = (refl, e)
-neither (Some x) b e = absurd (cc)
-
-pub kept : (rule : ℕ) (b : Bool) → fault rule (unless b) ≡ None → b ≡ true
-kept rule true e = refl
-kept rule false e = absurd (cc)
-
-pub no_item : (rule : ℕ) (i : Option ℕ) → fault rule i ≡ None → i ≡ None
-no_item rule None e = refl
-no_item rule (Some i) e = absurd (cc)
+use Rattle.cta_site.proofs.Unbroken.{neither, kept, no_item}
+use Rattle.site_json.proofs.Tested.{passed}
 
 -- rules 2 to 6, one by one
 pub record KeepsMembers (file : Data) : Type 0 where
@@ -75,16 +63,16 @@ pub record AreCounted (file : Data) : Type 0 where
 
 pub are_counted : (file : Data) → has_lists file ≡ true → AreCounted file
 are_counted file e =
-    let a = both (has_store_lists file) _ e in
-    let b = both (has_caller_lists file) (has_device_lists file) a.1 in
-    let s = both (has_list 64 (codes "vos") file) _ a.0 in
-    let t = both (has_list 256 (codes "classes") file) _ s.1 in
-    let u = both (has_list 256 (codes "pools") file) (has_list 1024 (codes "routes") file) t.1 in
-    let f = both (has_list 64 (codes "policies") file) _ b.0 in
-    let g = both (is_absent (codes "rules") file || has_list 1024 (codes "rules") file) (has_list 1024 (codes "directories") file) f.1 in
-    let d = both (has_list 32 (codes "libraries") file) _ b.1 in
-    let h = both (has_list 4096 (codes "tapes") file) _ d.1 in
-    let i = both (has_list 64 (codes "drives") file) (is_absent (codes "failures") file || has_list 1024 (codes "failures") file) h.1 in
+    let a = and_parts (has_store_lists file) _ e in
+    let b = and_parts (has_caller_lists file) (has_device_lists file) a.1 in
+    let s = and_parts (has_list 64 (codes "vos") file) _ a.0 in
+    let t = and_parts (has_list 256 (codes "classes") file) _ s.1 in
+    let u = and_parts (has_list 256 (codes "pools") file) (has_list 1024 (codes "routes") file) t.1 in
+    let f = and_parts (has_list 64 (codes "policies") file) _ b.0 in
+    let g = and_parts (is_absent (codes "rules") file || has_list 1024 (codes "rules") file) (has_list 1024 (codes "directories") file) f.1 in
+    let d = and_parts (has_list 32 (codes "libraries") file) _ b.1 in
+    let h = and_parts (has_list 4096 (codes "tapes") file) _ d.1 in
+    let i = and_parts (has_list 64 (codes "drives") file) (is_absent (codes "failures") file || has_list 1024 (codes "failures") file) h.1 in
     record {
       vos = counted 64 (codes "vos") file s.0;
       classes = counted 256 (codes "classes") file t.0;
@@ -125,14 +113,14 @@ are_good file e =
     let m = keeps_members file a.0 in
     let b = neither (bad_store file) _ (no_item 7 (bad_element file) a.1) in
     let d = neither (bad_caller file) (bad_device file) b.1 in
-    let s = neither (first_failing is_vo (list (codes "vos") file)) _ b.0 in
-    let t = neither (first_failing is_class (list (codes "classes") file)) _ s.1 in
-    let u = neither (first_failing is_pool (list (codes "pools") file)) (first_failing is_route (list (codes "routes") file)) t.1 in
-    let f = neither (first_failing is_policy (list (codes "policies") file)) (first_failing is_rule (list (codes "rules") file)) d.0 in
-    let g = neither (first_failing is_library (list (codes "libraries") file)) _ d.1 in
-    let h = neither (first_failing is_tape (list (codes "tapes") file)) _ g.1 in
-    let i = neither (first_failing is_drive (list (codes "drives") file)) _ h.1 in
-    let j = neither (first_failing is_directory (list (codes "directories") file)) (first_failing is_failure (list (codes "failures") file)) i.1 in
+    let s = neither (first_failing tells_vo (list (codes "vos") file)) _ b.0 in
+    let t = neither (first_failing tells_class (list (codes "classes") file)) _ s.1 in
+    let u = neither (first_failing tells_pool (list (codes "pools") file)) (first_failing tells_route (list (codes "routes") file)) t.1 in
+    let f = neither (first_failing tells_policy (list (codes "policies") file)) (first_failing tells_rule (list (codes "rules") file)) d.0 in
+    let g = neither (first_failing tells_library (list (codes "libraries") file)) _ d.1 in
+    let h = neither (first_failing tells_tape (list (codes "tapes") file)) _ g.1 in
+    let i = neither (first_failing tells_drive (list (codes "drives") file)) _ h.1 in
+    let j = neither (first_failing tells_directory (list (codes "directories") file)) (first_failing tells_failure (list (codes "failures") file)) i.1 in
     record {
       limits = m.limits;
       vos = s.0;

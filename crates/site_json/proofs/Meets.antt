@@ -1,6 +1,6 @@
 -- A site that is told by a file which keeps rules 2 to 7 keeps the rules 3 to 7 of a site.
 use Rattle.std.proofs.Common.{◌≡◌, ◌∙◌, ℕ, List, Bool, true, Option, None, length, refl, ap, map, sym, subst}
-use Rattle.std.proofs.lemmas.Bool.{and_from}
+use Rattle.std.proofs.lemmas.Bool.{and_parts, and_from}
 use Rattle.std.proofs.lemmas.List.{length-map}
 use Rattle.std.specs.Prelude.{nat_le, codes}
 use Rattle.std.specs.List.{list_all}
@@ -11,24 +11,25 @@ use Rattle.cta_site.specs.Bare.{bare_site}
 use Rattle.cta_site.specs.Items.{unless, fault}
 use Rattle.cta_site.specs.Forms as rule
 use Rattle.site_json.specs.Members.{has_text, has_name, has_number, text, number}
-use Rattle.site_json.specs.Elements.{is_vo, is_class, is_route, is_policy, is_rule, is_tape, is_failure, vo_of, class_of, pool_of, route_of, policy_of, rule_of, library_of, tape_of, drive_of, directory_of, failure_of}
+use Rattle.site_json.specs.Elements.{tells_vo, tells_class, tells_route, tells_policy, tells_rule, tells_tape, tells_failure, vo_told, class_told, pool_told, route_told, policy_told, rule_told, library_told, tape_told, drive_told, directory_told, failure_told}
 use Rattle.site_json.specs.File.{has_texts, has_limits, limits_in, limits_of, site_told, object_fault, member_fault, bad_element}
 use Rattle.site_json.specs.Tested.{AreGood}
-use Rattle.site_json.proofs.Tested.{both, in_range, text_in_range, text_is_name}
+use Rattle.cta_site.proofs.Unbroken.{neither}
+use Rattle.site_json.proofs.Tested.{in_range, text_in_range, text_is_name}
 use Rattle.site_json.proofs.Parts.{vo_parts, class_copies, route_copy, policy_parts, rule_name, tape_capacity, failure_parts, byte_parts, number_parts}
 use Rattle.site_json.proofs.Lists.{none_failing}
-use Rattle.site_json.proofs.Kept.{KeepsMembers, keeps_members, AreCounted, are_counted, are_good, neither}
+use Rattle.site_json.proofs.Kept.{KeepsMembers, keeps_members, AreCounted, are_counted, are_good}
 
 -- a number in a range is at most its end
 most : (low high : ℕ) (name : List ℕ) (d : Data) → has_number low high name d ≡ true → nat_le (number name d) high ≡ true
-most low high name d e = (both (nat_le low (number name d)) (nat_le (number name d) high) (in_range low high name d e)).1
+most low high name d e = (and_parts (nat_le low (number name d)) (nat_le (number name d) high) (in_range low high name d e)).1
 
 texts : (file : Data) → has_texts file ≡ true → rule.are_texts (site_told file) ≡ true
 texts file e =
-    let a = both (has_text 1 128 (codes "sitename") file) _ e in
-    let b = both (has_text 1 512 (codes "endpoint") file) _ a.1 in
-    let f = both (list_all rule.is_address_byte (text (codes "endpoint") file)) _ b.1 in
-    let g = both (has_name (codes "defaultPolicy") file) (has_name (codes "repackPolicy") file) f.1 in
+    let a = and_parts (has_text 1 128 (codes "sitename") file) _ e in
+    let b = and_parts (has_text 1 512 (codes "endpoint") file) _ a.1 in
+    let f = and_parts (list_all rule.is_address_byte (text (codes "endpoint") file)) _ b.1 in
+    let g = and_parts (has_name (codes "defaultPolicy") file) (has_name (codes "repackPolicy") file) f.1 in
     and_from _ _ (text_in_range 1 128 (codes "sitename") file a.0)
     (and_from _ _ (text_in_range 1 512 (codes "endpoint") file b.0)
     (and_from _ _ f.0
@@ -50,10 +51,10 @@ as_long f ds n e = ap (λ l. nat_le l n) (length-map ds f) ∙ e
 counts : (file : Data) → AreCounted file → rule.are_counts (site_told file) ≡ true
 counts file n =
     and_from _ _
-    (and_from _ _ (as_long vo_of _ 64 n.vos) (and_from _ _ (as_long class_of _ 256 n.classes) (and_from _ _ (as_long pool_of _ 256 n.pools) (as_long route_of _ 1024 n.routes))))
+    (and_from _ _ (as_long vo_told _ 64 n.vos) (and_from _ _ (as_long class_told _ 256 n.classes) (and_from _ _ (as_long pool_told _ 256 n.pools) (as_long route_told _ 1024 n.routes))))
     (and_from _ _
-    (and_from _ _ (as_long policy_of _ 64 n.policies) (and_from _ _ (as_long rule_of _ 1024 n.rules) (as_long directory_of _ 1024 n.directories)))
-    (and_from _ _ (as_long library_of _ 32 n.libraries) (and_from _ _ (as_long tape_of _ 4096 n.tapes) (and_from _ _ (as_long drive_of _ 64 n.drives) (as_long failure_of _ 1024 n.failures)))))
+    (and_from _ _ (as_long policy_told _ 64 n.policies) (and_from _ _ (as_long rule_told _ 1024 n.rules) (as_long directory_told _ 1024 n.directories)))
+    (and_from _ _ (as_long library_told _ 32 n.libraries) (and_from _ _ (as_long tape_told _ 4096 n.tapes) (and_from _ _ (as_long drive_told _ 64 n.drives) (as_long failure_told _ 1024 n.failures)))))
 
 none_of_four : (a b d e : Bool) → a ≡ true → b ≡ true → d ≡ true → e ≡ true
     → option_or (fault 3 (unless a)) (option_or (fault 4 (unless b)) (option_or (fault 5 (unless d)) (fault 6 (unless e)))) ≡ None
@@ -64,27 +65,27 @@ sizes file m =
     none_of_four (rule.are_texts (site_told file)) (rule.are_limits (limits_of (limits_in file))) (rule.fits_buffer (limits_of (limits_in file))) (rule.are_counts (site_told file))
     (texts file m.texts) (limits (limits_in file) m.limits) m.buffer (counts file (are_counted file m.lists))
 
-vo_kept : (d : Data) → is_vo d ≡ true → rule.is_vo (vo_of d) ≡ true
+vo_kept : (d : Data) → tells_vo d ≡ true → rule.is_vo (vo_told d) ≡ true
 vo_kept d e = let p = vo_parts d e in and_from _ _ (most _ _ _ d p.read_drives) (most _ _ _ d p.write_drives)
 
-class_kept : (d : Data) → is_class d ≡ true → rule.is_class (class_of d) ≡ true
+class_kept : (d : Data) → tells_class d ≡ true → rule.is_class (class_told d) ≡ true
 class_kept d e = in_range _ _ _ d (class_copies d e)
 
-route_kept : (d : Data) → is_route d ≡ true → rule.is_route (route_of d) ≡ true
+route_kept : (d : Data) → tells_route d ≡ true → rule.is_route (route_told d) ≡ true
 route_kept d e = in_range _ _ _ d (route_copy d e)
 
-policy_kept : (d : Data) → is_policy d ≡ true → rule.is_policy (policy_of d) ≡ true
+policy_kept : (d : Data) → tells_policy d ≡ true → rule.is_policy (policy_told d) ≡ true
 policy_kept d e =
     let p = policy_parts d e in
     and_from _ _ (most _ _ _ d p.archive_priority) (and_from _ _ (most _ _ _ d p.archive_min_age) (and_from _ _ (most _ _ _ d p.retrieve_priority) (most _ _ _ d p.retrieve_min_age)))
 
-rule_kept : (d : Data) → is_rule d ≡ true → rule.is_rule (rule_of d) ≡ true
+rule_kept : (d : Data) → tells_rule d ≡ true → rule.is_rule (rule_told d) ≡ true
 rule_kept d e = text_in_range _ _ _ d (rule_name d e)
 
-tape_kept : (d : Data) → is_tape d ≡ true → rule.is_tape (tape_of d) ≡ true
+tape_kept : (d : Data) → tells_tape d ≡ true → rule.is_tape (tape_told d) ≡ true
 tape_kept d e = in_range _ _ _ d (tape_capacity d e)
 
-failure_kept : (d : Data) → is_failure d ≡ true → rule.is_failure (failure_of d) ≡ true
+failure_kept : (d : Data) → tells_failure d ≡ true → rule.is_failure (failure_told d) ≡ true
 failure_kept d e = let p = failure_parts d e in and_from _ _ (in_range _ _ _ d p.number) p.altering
 
 none_of_seven : (a b d e f g h : Option ℕ) → a ≡ None → b ≡ None → d ≡ None → e ≡ None → f ≡ None → g ≡ None → h ≡ None
@@ -94,13 +95,13 @@ none_of_seven a b d e f g h ea eb ed ee ef eg eh = rw (ea, eb, ed, ee, ef, eg, e
 ranges : (file : Data) → AreGood file → rule.out_of_range (site_told file) ≡ None
 ranges file g =
     none_of_seven _ _ _ _ _ _ _
-    (none_failing is_vo rule.is_vo vo_of _ vo_kept g.vos)
-    (none_failing is_class rule.is_class class_of _ class_kept g.classes)
-    (none_failing is_route rule.is_route route_of _ route_kept g.routes)
-    (none_failing is_policy rule.is_policy policy_of _ policy_kept g.policies)
-    (none_failing is_rule rule.is_rule rule_of _ rule_kept g.rules)
-    (none_failing is_tape rule.is_tape tape_of _ tape_kept g.tapes)
-    (none_failing is_failure rule.is_failure failure_of _ failure_kept g.failures)
+    (none_failing tells_vo rule.is_vo vo_told _ vo_kept g.vos)
+    (none_failing tells_class rule.is_class class_told _ class_kept g.classes)
+    (none_failing tells_route rule.is_route route_told _ route_kept g.routes)
+    (none_failing tells_policy rule.is_policy policy_told _ policy_kept g.policies)
+    (none_failing tells_rule rule.is_rule rule_told _ rule_kept g.rules)
+    (none_failing tells_tape rule.is_tape tape_told _ tape_kept g.tapes)
+    (none_failing tells_failure rule.is_failure failure_told _ failure_kept g.failures)
 
 -- a site keeps these rules
 abbrev pub Keeps : Site → Type 0

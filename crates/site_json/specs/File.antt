@@ -12,7 +12,7 @@ use Rattle.cta_site.specs.Listed.{rows}
 use Rattle.cta_site.specs.Items.{unless, first_failing, fault}
 use Rattle.cta_site.specs.Forms.{is_address_byte}
 use Rattle.site_json.specs.Members.{has_text, has_name, has_number, has_list, is_absent, text, number, list}
-use Rattle.site_json.specs.Elements.{is_vo, is_class, is_pool, is_route, is_policy, is_rule, is_library, is_tape, is_drive, is_directory, is_failure, vo_of, class_of, pool_of, route_of, policy_of, rule_of, library_of, tape_of, drive_of, directory_of, failure_of}
+use Rattle.site_json.specs.Elements.{tells_vo, tells_class, tells_pool, tells_route, tells_policy, tells_rule, tells_library, tells_tape, tells_drive, tells_directory, tells_failure, vo_told, class_told, pool_told, route_told, policy_told, rule_told, library_told, tape_told, drive_told, directory_told, failure_told}
 
 -- a value, where it is an object
 abbrev pub object_alone : Data → Option Data
@@ -80,23 +80,23 @@ has_lists file = has_store_lists file && (has_caller_lists file && has_device_li
 -- the first bad element of the lists that say what is stored where
 abbrev pub bad_store : Data → Option ℕ
 bad_store file =
-    option_or (first_failing is_vo (list (codes "vos") file))
-    (option_or (first_failing is_class (list (codes "classes") file))
-    (option_or (first_failing is_pool (list (codes "pools") file))
-    (first_failing is_route (list (codes "routes") file))))
+    option_or (first_failing tells_vo (list (codes "vos") file))
+    (option_or (first_failing tells_class (list (codes "classes") file))
+    (option_or (first_failing tells_pool (list (codes "pools") file))
+    (first_failing tells_route (list (codes "routes") file))))
 
 -- the first bad element of the policies, then of the rules
 abbrev pub bad_caller : Data → Option ℕ
-bad_caller file = option_or (first_failing is_policy (list (codes "policies") file)) (first_failing is_rule (list (codes "rules") file))
+bad_caller file = option_or (first_failing tells_policy (list (codes "policies") file)) (first_failing tells_rule (list (codes "rules") file))
 
 -- the first bad element of the lists that follow
 abbrev pub bad_device : Data → Option ℕ
 bad_device file =
-    option_or (first_failing is_library (list (codes "libraries") file))
-    (option_or (first_failing is_tape (list (codes "tapes") file))
-    (option_or (first_failing is_drive (list (codes "drives") file))
-    (option_or (first_failing is_directory (list (codes "directories") file))
-    (first_failing is_failure (list (codes "failures") file)))))
+    option_or (first_failing tells_library (list (codes "libraries") file))
+    (option_or (first_failing tells_tape (list (codes "tapes") file))
+    (option_or (first_failing tells_drive (list (codes "drives") file))
+    (option_or (first_failing tells_directory (list (codes "directories") file))
+    (first_failing tells_failure (list (codes "failures") file)))))
 
 -- rule 7: each element has its members, of their kinds and in their ranges; the lists go in the order of the file's form
 abbrev pub bad_element : Data → Option ℕ
@@ -148,17 +148,17 @@ site_told file = record {
   default_policy = text (codes "defaultPolicy") file;
   repack_policy = text (codes "repackPolicy") file;
   limits = limits_of (limits_in file);
-  vos = rows (map vo_of (list (codes "vos") file));
-  classes = rows (map class_of (list (codes "classes") file));
-  pools = rows (map pool_of (list (codes "pools") file));
-  routes = rows (map route_of (list (codes "routes") file));
-  policies = rows (map policy_of (list (codes "policies") file));
-  rules = rows (map rule_of (list (codes "rules") file));
-  libraries = rows (map library_of (list (codes "libraries") file));
-  tapes = rows (map tape_of (list (codes "tapes") file));
-  drives = rows (map drive_of (list (codes "drives") file));
-  directories = rows (map directory_of (list (codes "directories") file));
-  failures = rows (map failure_of (list (codes "failures") file));
+  vos = rows (map vo_told (list (codes "vos") file));
+  classes = rows (map class_told (list (codes "classes") file));
+  pools = rows (map pool_told (list (codes "pools") file));
+  routes = rows (map route_told (list (codes "routes") file));
+  policies = rows (map policy_told (list (codes "policies") file));
+  rules = rows (map rule_told (list (codes "rules") file));
+  libraries = rows (map library_told (list (codes "libraries") file));
+  tapes = rows (map tape_told (list (codes "tapes") file));
+  drives = rows (map drive_told (list (codes "drives") file));
+  directories = rows (map directory_told (list (codes "directories") file));
+  failures = rows (map failure_told (list (codes "failures") file));
 }
 
 -- the site that the bytes of a site file tell, where they break none of rules 1 to 7

@@ -11,20 +11,20 @@ use Rattle.cta_site.specs.declared.site.CallKind.TheVariants.{Load, Write, Flush
 use Rattle.site_json.specs.Members.{text_at}
 
 -- whom a mount rule names
-abbrev pub kind_of : List ℕ → Option RuleKind
-kind_of word = if bytes_eq word (codes "requester") then Some Requester else (if bytes_eq word (codes "group") then Some Group else None)
+abbrev pub kind_spelled : List ℕ → Option RuleKind
+kind_spelled word = if bytes_eq word (codes "requester") then Some Requester else (if bytes_eq word (codes "group") then Some Group else None)
 
 -- the state of a tape
-abbrev pub state_of : List ℕ → Option TapeState
-state_of word =
+abbrev pub state_spelled : List ℕ → Option TapeState
+state_spelled word =
     if bytes_eq word (codes "ACTIVE") then Some Active else
     (if bytes_eq word (codes "DISABLED") then Some Disabled else
     (if bytes_eq word (codes "BROKEN") then Some Broken else
     (if bytes_eq word (codes "REPACKING") then Some Repacking else None)))
 
 -- a call of a tape drive
-abbrev pub call_of : List ℕ → Option CallKind
-call_of word =
+abbrev pub call_spelled : List ℕ → Option CallKind
+call_spelled word =
     if bytes_eq word (codes "load") then Some Load else
     (if bytes_eq word (codes "write") then Some Write else
     (if bytes_eq word (codes "flush") then Some Flush else
@@ -33,15 +33,15 @@ call_of word =
 
 -- the kind of a mount rule, where its member is such a word
 unfoldable pub kind_at : Data → Option RuleKind
-kind_at d = option_and_then kind_of (text_at (codes "kind") d)
+kind_at d = option_and_then kind_spelled (text_at (codes "kind") d)
 
 -- the state of a tape, where its member is such a word
 unfoldable pub state_at : Data → Option TapeState
-state_at d = option_and_then state_of (text_at (codes "state") d)
+state_at d = option_and_then state_spelled (text_at (codes "state") d)
 
 -- the call of a planned failure, where its member is such a word
 unfoldable pub call_at : Data → Option CallKind
-call_at d = option_and_then call_of (text_at (codes "call") d)
+call_at d = option_and_then call_spelled (text_at (codes "call") d)
 
 -- what a member says that may be absent, and is then false
 abbrev pub truth_or_false : Option Data → Option Bool

@@ -9,9 +9,9 @@ use serde_json::Value;
 use std::alloc::Global;
 
 impl Element for Policy {
-    ghost is_element = { said.is_policy };
+    ghost is_element = { said.tells_policy };
 
-    ghost element_of = { said.policy_of };
+    ghost element_of = { said.policy_told };
 
     fn is(value: &Value) -> bool {
         is_text(value, "name")
@@ -34,9 +34,9 @@ impl Element for Policy {
 }
 
 impl Element for Rule {
-    ghost is_element = { said.is_rule };
+    ghost is_element = { said.tells_rule };
 
-    ghost element_of = { said.rule_of };
+    ghost element_of = { said.rule_told };
 
     fn is(value: &Value) -> bool {
         kind_at(value).is_some() && has_text(value, 1, 128, "name") && is_text(value, "policy")
@@ -54,9 +54,9 @@ impl Element for Rule {
 }
 
 impl Element for Directory {
-    ghost is_element = { said.is_directory };
+    ghost is_element = { said.tells_directory };
 
-    ghost element_of = { said.directory_of };
+    ghost element_of = { said.directory_told };
 
     fn is(value: &Value) -> bool {
         is_text(value, "path") && is_text(value, "class")

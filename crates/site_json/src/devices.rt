@@ -12,9 +12,9 @@ use serde_json::Value;
 use std::alloc::Global;
 
 impl Element for Text {
-    ghost is_element = { said.is_library };
+    ghost is_element = { said.tells_library };
 
-    ghost element_of = { said.library_of };
+    ghost element_of = { said.library_told };
 
     fn is(value: &Value) -> bool {
         value.is_string()
@@ -29,9 +29,9 @@ impl Element for Text {
 }
 
 impl Element for Tape {
-    ghost is_element = { said.is_tape };
+    ghost is_element = { said.tells_tape };
 
-    ghost element_of = { said.tape_of };
+    ghost element_of = { said.tape_told };
 
     fn is(value: &Value) -> bool {
         is_text(value, "vid")
@@ -56,9 +56,9 @@ impl Element for Tape {
 }
 
 impl Element for Drive {
-    ghost is_element = { said.is_drive };
+    ghost is_element = { said.tells_drive };
 
-    ghost element_of = { said.drive_of };
+    ghost element_of = { said.drive_told };
 
     fn is(value: &Value) -> bool {
         is_text(value, "name") && is_text(value, "library")
@@ -96,9 +96,9 @@ fn alter(value: &Value) -> bool
 }
 
 impl Element for Failure {
-    ghost is_element = { said.is_failure };
+    ghost is_element = { said.tells_failure };
 
-    ghost element_of = { said.failure_of };
+    ghost element_of = { said.failure_told };
 
     fn is(value: &Value) -> bool {
         is_text(value, "drive")

@@ -52,10 +52,7 @@ pub(crate) fn elements<T: Element>(alloc: Global, values: &[Value]) -> Result<Ro
     let mut items = Vec::new(alloc);
     for value in values {
         let item = T::of(alloc, value)?;
-        match items.push(item) {
-            Ok(()) => {}
-            Err(_) => return Err(NoMemory),
-        }
+        items.push(item)?;
     }
     Ok(Rows::of(items))
 }

@@ -53,7 +53,7 @@ fn stores(
     file: &Value,
 ) -> Result<(Rows<Vo>, Rows<Class>, Rows<TapePool>, Rows<Route>), NoMemory>
     requires { AreGood (view file.now) }
-    ensures { IfOk result (λ s. (s.0.items ≡ map element.vo_of (member.list (codes "vos") (view file.now))) × (s.1.items ≡ map element.class_of (member.list (codes "classes") (view file.now))) × (s.2.items ≡ map element.pool_of (member.list (codes "pools") (view file.now))) × (s.3.items ≡ map element.route_of (member.list (codes "routes") (view file.now)))) }
+    ensures { IfOk result (λ s. (s.0.items ≡ map element.vo_told (member.list (codes "vos") (view file.now))) × (s.1.items ≡ map element.class_told (member.list (codes "classes") (view file.now))) × (s.2.items ≡ map element.pool_told (member.list (codes "pools") (view file.now))) × (s.3.items ≡ map element.route_told (member.list (codes "routes") (view file.now)))) }
 {
     let vos = elements(alloc, list(file, "vos"))?;
     let classes = elements(alloc, list(file, "classes"))?;
@@ -68,7 +68,7 @@ fn callers(
     file: &Value,
 ) -> Result<(Rows<Policy>, Rows<Rule>, Rows<Directory>), NoMemory>
     requires { AreGood (view file.now) }
-    ensures { IfOk result (λ c. (c.0.items ≡ map element.policy_of (member.list (codes "policies") (view file.now))) × (c.1.items ≡ map element.rule_of (member.list (codes "rules") (view file.now))) × (c.2.items ≡ map element.directory_of (member.list (codes "directories") (view file.now)))) }
+    ensures { IfOk result (λ c. (c.0.items ≡ map element.policy_told (member.list (codes "policies") (view file.now))) × (c.1.items ≡ map element.rule_told (member.list (codes "rules") (view file.now))) × (c.2.items ≡ map element.directory_told (member.list (codes "directories") (view file.now)))) }
 {
     let policies = elements(alloc, list(file, "policies"))?;
     let rules = elements(alloc, list(file, "rules"))?;
@@ -82,7 +82,7 @@ fn devices(
     file: &Value,
 ) -> Result<(Rows<Text>, Rows<Tape>, Rows<Drive>, Rows<Failure>), NoMemory>
     requires { AreGood (view file.now) }
-    ensures { IfOk result (λ d. (d.0.items ≡ map element.library_of (member.list (codes "libraries") (view file.now))) × (d.1.items ≡ map element.tape_of (member.list (codes "tapes") (view file.now))) × (d.2.items ≡ map element.drive_of (member.list (codes "drives") (view file.now))) × (d.3.items ≡ map element.failure_of (member.list (codes "failures") (view file.now)))) }
+    ensures { IfOk result (λ d. (d.0.items ≡ map element.library_told (member.list (codes "libraries") (view file.now))) × (d.1.items ≡ map element.tape_told (member.list (codes "tapes") (view file.now))) × (d.2.items ≡ map element.drive_told (member.list (codes "drives") (view file.now))) × (d.3.items ≡ map element.failure_told (member.list (codes "failures") (view file.now)))) }
 {
     let libraries = elements(alloc, list(file, "libraries"))?;
     let tapes = elements(alloc, list(file, "tapes"))?;

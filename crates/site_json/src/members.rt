@@ -1,50 +1,11 @@
 // Members of JSON objects.
-ghost use Rattle.std.specs.Prelude.{◌≡◌, ◌≤◌, IfOk, length, map, true, option_map};
-ghost use Rattle.std.specs.List.{list_all};
+ghost use Rattle.std.specs.Prelude.{◌≡◌, ◌≤◌, IfOk, map, option_map};
 ghost use Rattle.serde_json.specs.View.{view};
-ghost use Rattle.cta_site.specs.Forms as form;
-ghost use Rattle.cta_site.specs.Items.{is_within};
-ghost use Rattle.cta_site.specs.Names.{is_name_byte};
 ghost use Rattle.site_json.specs.Members as said;
 
-use cta_site::{NoMemory, Text};
+use cta_site::{NoMemory, Text, is_name, is_within};
 use serde_json::Value;
 use std::alloc::Global;
-
-// Whether a number is in a range, both ends included.
-fn is_within(low: u64, high: u64, number: u64) -> bool
-    ensures { result ≡ is_within low high number }
-{
-    low <= number && number <= high
-}
-
-// Whether a byte may stand in a name.
-fn is_name_byte(byte: u8) -> bool
-    ensures { result ≡ is_name_byte byte }
-{
-    byte.is_ascii_alphanumeric() || byte == b'_' || byte == b'-' || byte == b'.'
-}
-
-// Whether the bytes may stand in a name.
-fn are_name_bytes(text: &[u8]) -> bool
-    ensures { result ≡ list_all is_name_byte text.now }
-{
-    text.iter().all(|b| is_name_byte(*b))
-}
-
-// Whether a text has the form of a name.
-fn is_name(text: &[u8]) -> bool
-    ensures { result ≡ form.is_name text.now }
-{
-    is_within(1, 64, text.len() as u64) && are_name_bytes(text)
-}
-
-// Whether the bytes are printable ASCII.
-pub(crate) fn are_address_bytes(text: &[u8]) -> bool
-    ensures { result ≡ list_all form.is_address_byte text.now }
-{
-    text.iter().all(|b| is_within(33, 126, u64::from(*b)))
-}
 
 // The text that a member is, where it is one.
 #[tactic(auto, unfolding(crate::specs::Members::text_at))]
@@ -157,10 +118,8 @@ pub(crate) fn text_bytes<'v>(value: &'v Value, name: &str) -> &'v [u8]
 pub(crate) fn text_of(alloc: Global, characters: &str) -> Result<Text, NoMemory>
     ensures { IfOk result (λ text. text ≡ characters.now) }
 {
-    match String::from_str(alloc, characters) {
-        Ok(string) => Ok(Text::of(string)),
-        Err(_) => Err(NoMemory),
-    }
+    let string = String::from_str(alloc, characters)?;
+    Ok(Text::of(string))
 }
 
 // A member's text, empty where it is none.

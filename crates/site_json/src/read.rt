@@ -49,10 +49,8 @@ fn told(alloc: Global, file: &Value) -> Result<Site, SiteError>
         Some((rule, item)) => Err(SiteError::Fault { rule, item }),
         None => {
             elements_are_good(file);
-            match site_told(alloc, file) {
-                Ok(site) => Ok(site),
-                Err(_) => Err(SiteError::NoMemory),
-            }
+            let site = site_told(alloc, file)?;
+            Ok(site)
         }
     }
 }
@@ -66,9 +64,8 @@ pub fn read_site(alloc: Global, bytes: &[u8]) -> Result<Site, SiteError>
     ensures value { MatchResult result (λ site. (said.file_fault bytes.now ≡ None) × (bare_site site ≡ said.site_of bytes.now)) (λ e. IsCauseOf e (said.file_fault bytes.now)) }
     ensures kept { IfOk result (λ site. (size_fault site ≡ None) × (out_of_range site ≡ None)) }
 {
-    match file_of(alloc, bytes) {
-        Ok(Some(file)) => told(alloc, &file),
-        Ok(None) => Err(SiteError::Fault { rule: 1, item: 0 }),
-        Err(_) => Err(SiteError::NoMemory),
+    match file_of(alloc, bytes)? {
+        Some(file) => told(alloc, &file),
+        None => Err(SiteError::Fault { rule: 1, item: 0 }),
     }
 }

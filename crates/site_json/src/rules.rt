@@ -2,34 +2,18 @@
 ghost use Rattle.std.specs.Prelude.{◌≡◌};
 ghost use Rattle.serde_json.specs.Data.{null};
 ghost use Rattle.serde_json.specs.View.{view};
-ghost use Rattle.cta_site.specs.Items as items;
 ghost use Rattle.site_json.specs.File as said;
 ghost use Rattle.site_json.specs.Tested.{AreGood, AreShort};
 
 use crate::element::first_bad;
 use crate::members::{
-    are_address_bytes, has_list, has_name, has_number, has_text, is_absent, list, number,
-    text_bytes,
+    has_list, has_name, has_number, has_text, is_absent, list, number, text_bytes,
 };
-use cta_site::{Class, Directory, Drive, Failure, Policy, Route, Rule, Tape, TapePool, Text, Vo};
+use cta_site::{
+    Class, Directory, Drive, Failure, Policy, Route, Rule, Tape, TapePool, Text, Vo,
+    are_address_bytes, fault, unless,
+};
 use serde_json::Value;
-
-// 0 where a rule that speaks of no element is broken.
-fn unless(kept: bool) -> Option<u32>
-    ensures { result ≡ items.unless kept }
-{
-    if kept { None } else { Some(0) }
-}
-
-// A rule and the item that breaks it, where one does.
-fn fault(rule: u8, item: Option<u32>) -> Option<(u8, u32)>
-    ensures { result ≡ items.fault rule item }
-{
-    match item {
-        Some(item) => Some((rule, item)),
-        None => None,
-    }
-}
 
 // Whether the version is 1.
 fn has_version(file: &Value) -> bool

@@ -8,9 +8,9 @@ use serde_json::Value;
 use std::alloc::Global;
 
 impl Element for Vo {
-    ghost is_element = { said.is_vo };
+    ghost is_element = { said.tells_vo };
 
-    ghost element_of = { said.vo_of };
+    ghost element_of = { said.vo_told };
 
     fn is(value: &Value) -> bool {
         is_text(value, "name")
@@ -29,9 +29,9 @@ impl Element for Vo {
 }
 
 impl Element for Class {
-    ghost is_element = { said.is_class };
+    ghost is_element = { said.tells_class };
 
-    ghost element_of = { said.class_of };
+    ghost element_of = { said.class_told };
 
     fn is(value: &Value) -> bool {
         is_text(value, "name") && is_text(value, "vo") && has_number(value, 1, 4, "copies")
@@ -49,9 +49,9 @@ impl Element for Class {
 }
 
 impl Element for TapePool {
-    ghost is_element = { said.is_pool };
+    ghost is_element = { said.tells_pool };
 
-    ghost element_of = { said.pool_of };
+    ghost element_of = { said.pool_told };
 
     fn is(value: &Value) -> bool {
         is_text(value, "name") && is_text(value, "vo")
@@ -65,9 +65,9 @@ impl Element for TapePool {
 }
 
 impl Element for Route {
-    ghost is_element = { said.is_route };
+    ghost is_element = { said.tells_route };
 
-    ghost element_of = { said.route_of };
+    ghost element_of = { said.route_told };
 
     fn is(value: &Value) -> bool {
         is_text(value, "class") && has_number(value, 1, 4, "copy") && is_text(value, "pool")

@@ -8,8 +8,8 @@ use cta_site::{CallKind, RuleKind, TapeState};
 use serde_json::Value;
 
 // Whom a mount rule names.
-fn kind_of(word: &str) -> Option<RuleKind>
-    ensures { result ≡ said.kind_of word.now }
+fn kind_spelled(word: &str) -> Option<RuleKind>
+    ensures { result ≡ said.kind_spelled word.now }
 {
     match word {
         "requester" => Some(RuleKind::Requester),
@@ -19,8 +19,8 @@ fn kind_of(word: &str) -> Option<RuleKind>
 }
 
 // The state of a tape.
-fn state_of(word: &str) -> Option<TapeState>
-    ensures { result ≡ said.state_of word.now }
+fn state_spelled(word: &str) -> Option<TapeState>
+    ensures { result ≡ said.state_spelled word.now }
 {
     match word {
         "ACTIVE" => Some(TapeState::Active),
@@ -32,8 +32,8 @@ fn state_of(word: &str) -> Option<TapeState>
 }
 
 // A call of a tape drive.
-fn call_of(word: &str) -> Option<CallKind>
-    ensures { result ≡ said.call_of word.now }
+fn call_spelled(word: &str) -> Option<CallKind>
+    ensures { result ≡ said.call_spelled word.now }
 {
     match word {
         "load" => Some(CallKind::Load),
@@ -51,7 +51,7 @@ pub(crate) fn kind_at(value: &Value) -> Option<RuleKind>
     ensures { result ≡ said.kind_at (view value.now) }
 {
     match text_at(value, "kind") {
-        Some(word) => kind_of(word),
+        Some(word) => kind_spelled(word),
         None => None,
     }
 }
@@ -62,7 +62,7 @@ pub(crate) fn state_at(value: &Value) -> Option<TapeState>
     ensures { result ≡ said.state_at (view value.now) }
 {
     match text_at(value, "state") {
-        Some(word) => state_of(word),
+        Some(word) => state_spelled(word),
         None => None,
     }
 }
@@ -73,7 +73,7 @@ pub(crate) fn call_at(value: &Value) -> Option<CallKind>
     ensures { result ≡ said.call_at (view value.now) }
 {
     match text_at(value, "call") {
-        Some(word) => call_of(word),
+        Some(word) => call_spelled(word),
         None => None,
     }
 }

@@ -10,14 +10,14 @@ returns-then-not-are_plain c = λ form spells.
     let plain = c.are_plain.ensures.1 (each_plain c.args.words.now spells.1) in
     cc
 
-pub returns-in-Ok-try_get_matches_from : goal.returns-in-Ok-try_get_matches_from
-returns-in-Ok-try_get_matches_from c =
+pub returns-in-Ok : goal.returns-in-Ok
+returns-in-Ok c =
     let words = map string_bytes c.args.words.now in
     let plain = All-map IsPlainWord string_bytes c.args.words.now (c.are_plain.ensures.0 c.if-not-are_plain.false) in
-    let parsed = c.in-Ok-try_get_matches_from.ensures in
-    found_spells words (app_of c.in-Ok.command) c.form_of.result c.in-Ok-try_get_matches_from.matches c.ok_or.result (c.in-Ok.ensures) plain parsed.kinds parsed.matches c.form_of.ensures c.ok_or.ensures.value
+    let parsed = c.in-Ok.ensures in
+    found_spells words (app_of c.in_ok-command.command) c.form_of.result c.in-Ok.matches c.ok_or.result (c.in_ok-command.ensures) plain parsed.kinds parsed.matches c.form_of.ensures c.ok_or.ensures.value
 
 pub returns-in-Err : goal.returns-in-Err
 returns-in-Err c =
     let words = map string_bytes c.args.words.now in
-    error_explains words (app_of c.in-Ok.command) c.reason_of.result c.in-Err.error (c.in-Ok.ensures) c.in-Err.ensures.kinds c.reason_of.ensures
+    error_explains words (app_of c.in_ok-command.command) c.reason_of.result c.in-Err.error (c.in_ok-command.ensures) c.in-Err.ensures.kinds c.reason_of.ensures
