@@ -27,11 +27,17 @@ impl Ahead {
         }
     }
 
-    // Gives bytes that are held; where none is, those that one read of `from` gives. Nothing is read for an empty
-    // place.
+    // Gives bytes that are held; where none is, those that one read of `from` gives. A place that takes as many as are
+    // held at most is read into straight away, so that its bytes are copied once less. Nothing is read for an empty place.
     pub(crate) fn read<R: Read>(&mut self, from: &mut R, to: &mut [u8]) -> Result<usize, Failed>
         ensures { ReadsAtMost result to.new }
     {
+        if self.start == self.end && to.len() >= CAPACITY {
+            return match from.read(to) {
+                Ok(count) => Ok(count),
+                Err(_) => Err(Failed),
+            };
+        }
         if self.start == self.end && !to.is_empty() {
             self.start = 0;
             self.end = 0;

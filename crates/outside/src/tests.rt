@@ -40,7 +40,7 @@ fn writes(
 }
 
 #[test]
-fn memory_fails_as_planned(rt: HostRuntime) -> Result<(), Fail> {
+fn reads_fail_as_planned(rt: HostRuntime) -> Result<(), Fail> {
     let alloc = rt.alloc();
     reads(&rt, alloc, 0, [(Ok(3), "d"), (Ok(1), ""), (Ok(0), "")])?;
     reads(
@@ -54,7 +54,12 @@ fn memory_fails_as_planned(rt: HostRuntime) -> Result<(), Fail> {
         alloc,
         2,
         [(Ok(3), "d"), (Err(Failed), "d"), (Ok(1), "")],
-    )?;
+    )
+}
+
+#[test]
+fn writes_fail_as_planned(rt: HostRuntime) -> Result<(), Fail> {
+    let alloc = rt.alloc();
     writes(
         &rt,
         alloc,
