@@ -22,7 +22,7 @@ use Rattle.cta_model.specs.Answers.{refuse, weighed, served_answer}
 use Rattle.cta_model.specs.Legal.{IsLegal, new_entry, greatest_moment}
 use Rattle.cta_model.specs.Kept.{AreBuilt}
 use Rattle.cta_model.proofs.Appends.{is_next}
-use Rattle.archive.specs.Puts.{first_refusal, put_refusal, stored_bytes, IsKept}
+use Rattle.archive.specs.Puts.{first_refusal, put_refusal, stored_bytes, IsArchived}
 use Rattle.archive.proofs.OnlyPuts.{evicted_for-built, evictable_size-built}
 use Rattle.archive.proofs.KeptPuts.{ArePuts, are_puts, weight_of-puts, free_space-puts}
 
@@ -83,8 +83,8 @@ passes false false false true heavy e = none_some e
 passes false false false false true e = none_some e
 passes false false false false false e = (refl, refl)
 
-pub put_kept : (site : Site) (h : History) (t : ℕ) (who : Who) (path : List ℕ) (sum : Sum256) → IsKept site h → t ≤ greatest_moment →
-    put_refusal site h path sum.len ≡ None → IsKept site (new_entry h t (ask.Put who path sum) (answer.Stored (rows [])) ∷ h)
+pub put_kept : (site : Site) (h : History) (t : ℕ) (who : Who) (path : List ℕ) (sum : Sum256) → IsArchived site h → t ≤ greatest_moment →
+    put_refusal site h path sum.len ≡ None → IsArchived site (new_entry h t (ask.Put who path sum) (answer.Stored (rows [])) ∷ h)
 put_kept site h t who path sum kept low passed =
     let served : served_answer site h t (ask.Put who path sum) ≡ answer.Stored (rows []) = put_stored site h t who path sum kept.legal kept.built passed in
     let tests = passes (not (is_path path)) (is_none (class_of site path)) (is_some (live_file h path)) (nat_lt (site.limits.buffer - stored_bytes h) sum.len) (nat_lt site.limits.history (length h + 1)) passed in

@@ -30,7 +30,7 @@ put_refusal site h path size =
     first_refusal (not (is_path path)) (is_none (class_of site path)) (is_some (live_file h path)) (nat_lt (site.limits.buffer - stored_bytes h) size) (nat_lt site.limits.history (length h + 1))
 
 -- what an archive's history keeps: it is legal, each of its asks is one that is served, its files fit in the buffer, and it is no longer than the site's limit
-pub record IsKept (site : Site) (h : History) : Type 0 where
+pub record IsArchived (site : Site) (h : History) : Type 0 where
   pub legal : IsLegal site h
   pub built : AreBuilt h
   pub room : stored_bytes h ≤ site.limits.buffer

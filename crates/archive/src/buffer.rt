@@ -8,7 +8,7 @@ ghost use Rattle.cta_model.specs.Newest.{history_in};
 use crate::files::is_live;
 use cta_model::{Answer, Ask, Entry, Fate};
 
-/// Whether the entry of this number brings the file into the buffer.
+// Whether the entry of this number brings the file into the buffer.
 fn brings_in(entry: &Entry, number: u32, file: u32) -> bool
     ensures { result ≡ brings_in (bare_ask entry.now.ask) (bare_answer entry.now.answer) number file }
 {
@@ -19,7 +19,7 @@ fn brings_in(entry: &Entry, number: u32, file: u32) -> bool
     }
 }
 
-/// Whether a number is in the list.
+// Whether a number is in the list.
 fn has_number(number: u32, numbers: &[u32]) -> bool
     ensures { result ≡ has_number number numbers.now }
 {
@@ -29,7 +29,7 @@ fn has_number(number: u32, numbers: &[u32]) -> bool
     }
 }
 
-/// Whether an answer lists the file as evicted.
+// Whether an answer lists the file as evicted.
 fn lists_evicted(answer: &Answer, file: u32) -> bool
     ensures { result ≡ lists_evicted (bare_answer answer.now) file }
 {
@@ -52,7 +52,7 @@ fn arrival_after(brought: bool, evicted: bool, number: u32, before: Option<u32>)
     }
 }
 
-/// The last entry that brought the file in, where no later answer lists it as evicted.
+// The last entry that brought the file in, where no later answer lists it as evicted.
 #[tactic(auto, using(cta_model::proofs::Newest::scans))]
 fn last_arrival(entries: &[Entry], file: u32) -> Option<u32>
     requires { length entries.now < 2 ^ 32 }
@@ -69,8 +69,8 @@ fn last_arrival(entries: &[Entry], file: u32) -> Option<u32>
     arrival
 }
 
-/// Whether the file is in the buffer.
-pub fn is_resident(entries: &[Entry], file: u32) -> bool
+// Whether the file is in the buffer.
+pub(crate) fn is_resident(entries: &[Entry], file: u32) -> bool
     requires { length entries.now < 2 ^ 32 }
     ensures { result ≡ is_resident (history_in entries.now) file }
 {

@@ -7,9 +7,9 @@ ghost use Rattle.cta_model.specs.Newest.{history_in};
 
 use cta_model::{Answer, Ask, Entry};
 
-/// The entry of this number, from 1, where there is one.
+// The entry of this number, from 1, where there is one.
 #[tactic(auto, using(crate::proofs::Numbers::numbers))]
-pub fn entry_of(entries: &[Entry], number: u32) -> Option<&Entry>
+pub(crate) fn entry_of(entries: &[Entry], number: u32) -> Option<&Entry>
     ensures { option_map bare_entry (option_copied result) ≡ entry_of (history_in entries.now) number }
 {
     let number = number as usize;
@@ -19,7 +19,7 @@ pub fn entry_of(entries: &[Entry], number: u32) -> Option<&Entry>
     Some(&entries[number - 1])
 }
 
-/// The tape of the mount that an entry made, or 0.
+// The tape of the mount that an entry made, or 0.
 fn mounted_tape(entry: &Entry) -> u32
     ensures { result ≡ tape_by (mount_in (bare_ask entry.now.ask) (bare_answer entry.now.answer)) }
 {
@@ -29,8 +29,8 @@ fn mounted_tape(entry: &Entry) -> u32
     }
 }
 
-/// The tape of the mount of this number, or 0 where there is none.
-pub fn tape_of_mount(entries: &[Entry], mount: u32) -> u32
+// The tape of the mount of this number, or 0 where there is none.
+pub(crate) fn tape_of_mount(entries: &[Entry], mount: u32) -> u32
     ensures { result ≡ tape_of_mount (history_in entries.now) mount }
 {
     match entry_of(entries, mount) {
@@ -39,8 +39,8 @@ pub fn tape_of_mount(entries: &[Entry], mount: u32) -> u32
     }
 }
 
-/// The mount that an ask is about, or 0.
-pub fn asked_mount(ask: &Ask) -> u32
+// The mount that an ask is about, or 0.
+pub(crate) fn asked_mount(ask: &Ask) -> u32
     ensures { result ≡ asked_mount (bare_ask ask.now) }
 {
     match ask {

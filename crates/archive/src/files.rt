@@ -7,7 +7,7 @@ ghost use Rattle.cta_model.specs.Newest.{history_in};
 use crate::entries::entry_of;
 use cta_model::{Ask, Entry};
 
-/// What a path names after the entry of this number.
+// What a path names after the entry of this number.
 fn live_after(entry: &Entry, number: u32, path: &[u8], before: Option<u32>) -> Option<u32>
     ensures { result ≡ live_after (bare_ask entry.now.ask) number path.now before }
 {
@@ -18,9 +18,9 @@ fn live_after(entry: &Entry, number: u32, path: &[u8], before: Option<u32>) -> O
     }
 }
 
-/// The live file that a path names.
+// The live file that a path names.
 #[tactic(auto, using(cta_model::proofs::Newest::scans))]
-pub fn live_file(entries: &[Entry], path: &[u8]) -> Option<u32>
+pub(crate) fn live_file(entries: &[Entry], path: &[u8]) -> Option<u32>
     requires { length entries.now < 2 ^ 32 }
     ensures { result ≡ live_file (history_in entries.now) path.now }
 {
@@ -33,7 +33,7 @@ pub fn live_file(entries: &[Entry], path: &[u8]) -> Option<u32>
     file
 }
 
-/// The path that an ask puts, or an empty one.
+// The path that an ask puts, or an empty one.
 fn path_in(ask: &Ask) -> &[u8]
     ensures { result.now ≡ path_in (bare_ask ask.now) }
 {
@@ -43,8 +43,8 @@ fn path_in(ask: &Ask) -> &[u8]
     }
 }
 
-/// The path of a file, or an empty one where there is no such file.
-pub fn path_of(entries: &[Entry], file: u32) -> &[u8]
+// The path of a file, or an empty one where there is no such file.
+pub(crate) fn path_of(entries: &[Entry], file: u32) -> &[u8]
     ensures { result.now ≡ path_of (history_in entries.now) file }
 {
     match entry_of(entries, file) {
@@ -53,8 +53,8 @@ pub fn path_of(entries: &[Entry], file: u32) -> &[u8]
     }
 }
 
-/// Whether the file is live.
-pub fn is_live(entries: &[Entry], file: u32) -> bool
+// Whether the file is live.
+pub(crate) fn is_live(entries: &[Entry], file: u32) -> bool
     requires { length entries.now < 2 ^ 32 }
     ensures { result ≡ is_live (history_in entries.now) file }
 {

@@ -3,12 +3,12 @@
 //! in the history.
 #![tactic(auto)]
 
+mod archive;
 mod buffer;
 mod entries;
 mod files;
-mod kept;
 mod localities;
 mod places;
 mod tapes;
 
-pub use kept::Archive;
+pub use archive::Archive;

@@ -15,7 +15,7 @@ use cta_model::{Entry, Locality, NoMemory, Place, PlaceInfo, Rows, Text};
 use cta_site::ValidSite;
 use std::alloc::Global;
 
-/// Whether a place is on a tape that may be read.
+// Whether a place is on a tape that may be read.
 fn may_be_read_at(site: &ValidSite, entries: &[Entry], place: Option<Place>) -> bool
     ensures { result ≡ place_passes tapes.may_be_read site.now (history_in entries.now) place }
 {
@@ -28,7 +28,7 @@ fn may_be_read_at(site: &ValidSite, entries: &[Entry], place: Option<Place>) -> 
     }
 }
 
-/// Whether a place is on a DISABLED tape.
+// Whether a place is on a DISABLED tape.
 fn is_disabled_at(site: &ValidSite, entries: &[Entry], place: Option<Place>) -> bool
     ensures { result ≡ place_passes tapes.is_disabled site.now (history_in entries.now) place }
 {
@@ -41,7 +41,7 @@ fn is_disabled_at(site: &ValidSite, entries: &[Entry], place: Option<Place>) -> 
     }
 }
 
-/// Whether one of the copies from 1 on has a place on a tape that may be read.
+// Whether one of the copies from 1 on has a place on a tape that may be read.
 #[tactic(auto, using(crate::proofs::Copies::copy_by_copy))]
 fn has_readable(site: &ValidSite, entries: &[Entry], file: u32, copies: u8) -> bool
     requires { length entries.now < 2 ^ 32 }
@@ -54,7 +54,7 @@ fn has_readable(site: &ValidSite, entries: &[Entry], file: u32, copies: u8) -> b
     found
 }
 
-/// Whether one of the copies from 1 on has a place on a DISABLED tape.
+// Whether one of the copies from 1 on has a place on a DISABLED tape.
 #[tactic(auto, using(crate::proofs::Copies::copy_by_copy))]
 fn has_disabled(site: &ValidSite, entries: &[Entry], file: u32, copies: u8) -> bool
     requires { length entries.now < 2 ^ 32 }
@@ -83,7 +83,7 @@ fn locality_by(taped: bool, readable: bool, resident: bool, disabled: bool) -> L
     }
 }
 
-/// Where a file is kept.
+// Where a file is kept.
 fn locality_of(site: &ValidSite, entries: &[Entry], file: u32) -> Locality
     requires { length entries.now < 2 ^ 32 }
     ensures { result ≡ locality_of site.now (history_in entries.now) file }
@@ -96,7 +96,7 @@ fn locality_of(site: &ValidSite, entries: &[Entry], file: u32) -> Locality
     locality_by(taped, readable, resident, disabled)
 }
 
-/// What is told of a path.
+// What is told of a path.
 fn place_info(
     alloc: Global,
     site: &ValidSite,
@@ -113,20 +113,20 @@ fn place_info(
             locality: Some(locality_of(site, entries, file)),
             error: None,
         }),
-        None => match String::from_str(alloc, "no such file") {
-            Ok(error) => Ok(PlaceInfo {
+        None => {
+            let error = String::from_str(alloc, "no such file")?;
+            Ok(PlaceInfo {
                 path: kept,
                 locality: None,
                 error: Some(Text::of(error)),
-            }),
-            Err(_) => Err(NoMemory),
-        },
+            })
+        }
     }
 }
 
-/// What is told of each path, in their order.
+// What is told of each path, in their order.
 #[tactic(auto, using(std::proofs::lemmas::Grind::common_steps, crate::proofs::PlaceInfos::path_by_path))]
-pub fn place_infos(
+pub(crate) fn place_infos(
     alloc: Global,
     site: &ValidSite,
     entries: &[Entry],
@@ -138,10 +138,7 @@ pub fn place_infos(
     let mut infos = Vec::new(alloc);
     for path in paths {
         let info = place_info(alloc, site, entries, path)?;
-        match infos.push(info) {
-            Ok(()) => {}
-            Err(_) => return Err(NoMemory),
-        }
+        infos.push(info)?;
     }
     Ok(Rows::of(infos))
 }

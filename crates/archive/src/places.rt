@@ -11,7 +11,7 @@ use crate::files::{is_live, path_of};
 use cta_model::{Answer, Ask, Entry, Fate, Item, Place};
 use cta_site::ValidSite;
 
-/// The fSeq of the last of these items that put the copy of the file on tape.
+// The fSeq of the last of these items that put the copy of the file on tape.
 fn fseq_after(
     items: &[Item],
     fates: &[Fate],
@@ -34,7 +34,7 @@ fn fseq_after(
     }
 }
 
-/// The fSeq of the last item of an entry that put the copy of the file on tape.
+// The fSeq of the last item of an entry that put the copy of the file on tape.
 fn fseq_in(entry: &Entry, file: u32, copy: u8) -> Option<u32>
     ensures { result ≡ fseq_after (flushed_in (bare_ask entry.now.ask) (bare_answer entry.now.answer)) file copy None }
 {
@@ -46,7 +46,7 @@ fn fseq_in(entry: &Entry, file: u32, copy: u8) -> Option<u32>
     }
 }
 
-/// The place of the copy after one more entry, behind these.
+// The place of the copy after one more entry, behind these.
 fn place_after(
     entries: &[Entry],
     entry: &Entry,
@@ -67,7 +67,7 @@ fn place_after(
     }
 }
 
-/// The tape and fSeq of the last flushed item of the copy with fate Done.
+// The tape and fSeq of the last flushed item of the copy with fate Done.
 #[tactic(auto, using(cta_model::proofs::Newest::scans))]
 fn last_flushed(entries: &[Entry], file: u32, copy: u8) -> Option<Place>
     ensures { result ≡ last_flushed (history_in entries.now) file copy }
@@ -79,8 +79,8 @@ fn last_flushed(entries: &[Entry], file: u32, copy: u8) -> Option<Place>
     place
 }
 
-/// The place of a copy of a live file.
-pub fn place_of(entries: &[Entry], file: u32, copy: u8) -> Option<Place>
+// The place of a copy of a live file.
+pub(crate) fn place_of(entries: &[Entry], file: u32, copy: u8) -> Option<Place>
     requires { length entries.now < 2 ^ 32 }
     ensures { result ≡ place_of (history_in entries.now) file copy }
 {
@@ -91,7 +91,7 @@ pub fn place_of(entries: &[Entry], file: u32, copy: u8) -> Option<Place>
     }
 }
 
-/// Whether each of the copies of a file from 1 on was flushed.
+// Whether each of the copies of a file from 1 on was flushed.
 fn copies_flushed(entries: &[Entry], file: u32, copies: u8) -> bool
     ensures { result ≡ copies_flushed (history_in entries.now) file copies }
 {
@@ -102,15 +102,15 @@ fn copies_flushed(entries: &[Entry], file: u32, copies: u8) -> bool
     all
 }
 
-/// How many copies the class of a file has.
-pub fn copies_of_file(site: &ValidSite, entries: &[Entry], file: u32) -> u8
+// How many copies the class of a file has.
+pub(crate) fn copies_of_file(site: &ValidSite, entries: &[Entry], file: u32) -> u8
     ensures { result ≡ copies_of_file site.now (history_in entries.now) file }
 {
     site.copies_of(path_of(entries, file))
 }
 
-/// Whether each copy of the file's class was flushed.
-pub fn is_taped(site: &ValidSite, entries: &[Entry], file: u32) -> bool
+// Whether each copy of the file's class was flushed.
+pub(crate) fn is_taped(site: &ValidSite, entries: &[Entry], file: u32) -> bool
     ensures { result ≡ is_taped site.now (history_in entries.now) file }
 {
     copies_flushed(entries, file, copies_of_file(site, entries, file))

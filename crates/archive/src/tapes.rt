@@ -20,7 +20,7 @@ fn state_after(entry: &Entry, tape: u32, before: TapeState) -> TapeState
     }
 }
 
-/// The state that the site gives a tape, BROKEN where it has no such tape.
+// The state that the site gives a tape, BROKEN where it has no such tape.
 fn first_state(site: &ValidSite, tape: u32) -> TapeState
     ensures { result ≡ tape_state site.now [] tape }
 {
@@ -30,9 +30,9 @@ fn first_state(site: &ValidSite, tape: u32) -> TapeState
     }
 }
 
-/// The state of a tape.
+// The state of a tape.
 #[tactic(auto, using(cta_model::proofs::Newest::scans))]
-pub fn tape_state(site: &ValidSite, entries: &[Entry], tape: u32) -> TapeState
+pub(crate) fn tape_state(site: &ValidSite, entries: &[Entry], tape: u32) -> TapeState
     ensures { result ≡ tape_state site.now (history_in entries.now) tape }
 {
     let mut state = first_state(site, tape);
@@ -42,19 +42,19 @@ pub fn tape_state(site: &ValidSite, entries: &[Entry], tape: u32) -> TapeState
     state
 }
 
-pub fn is_broken(state: TapeState) -> bool
+pub(crate) fn is_broken(state: TapeState) -> bool
     ensures { result ≡ is_broken state }
 {
     matches!(state, TapeState::Broken)
 }
 
-pub fn is_disabled(state: TapeState) -> bool
+pub(crate) fn is_disabled(state: TapeState) -> bool
     ensures { result ≡ is_disabled state }
 {
     matches!(state, TapeState::Disabled)
 }
 
-pub fn may_be_read(state: TapeState) -> bool
+pub(crate) fn may_be_read(state: TapeState) -> bool
     ensures { result ≡ may_be_read state }
 {
     matches!(state, TapeState::Active | TapeState::Repacking)

@@ -20,8 +20,8 @@ abbrev pub failing_session : ℕ → ℕ → Fault → List Job → List (ℕ ×
 failing_session at m fault jobs = (at, ask.Next 0) ∷ (at, ask.Claim m) ∷ (at, ask.Failed m fault (rows jobs) (rows [])) ∷ (at, ask.End m None) ∷ []
 
 -- the tape gets this state, at the moment 100
-abbrev pub state_of : ℕ → TapeState → ℕ × Ask
-state_of v s = (100, ask.TapeState somebody v s)
+abbrev pub set_state : ℕ → TapeState → ℕ × Ask
+set_state v s = (100, ask.TapeState somebody v s)
 
 -- a Retry of /atlas/a, at the moment 100
 abbrev pub retry_a : ℕ × Ask

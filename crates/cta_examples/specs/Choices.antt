@@ -4,11 +4,11 @@ use Rattle.cta_model.specs.declared.asks.Ask.TheVariants as ask
 use Rattle.cta_model.specs.History.{History}
 use Rattle.cta_model.specs.Kept.{history_of}
 use Rattle.cta_model.specs.Examples.{somebody, fast, put_by, put_of, put_a, put_b, stage_a, first_item, archive_one, a_to_tape_alone}
-use Rattle.cta_examples.specs.Sites.{small_site, two_drive_site, two_writer_site, two_file_site, fast_requester_site}
+use Rattle.cta_examples.specs.Sites.{small_buffer_site, two_drive_site, two_writer_site, two_file_site, fast_requester_site}
 
 -- a file waits to be written to the tape from which another waits to be read, both of priority 1
 abbrev pub write_and_read : History
-write_and_read = history_of small_site [] (a_to_tape_alone ++ (put_of (codes "/atlas/c") 5 ∷ stage_a 200 ∷ []))
+write_and_read = history_of small_buffer_site [] (a_to_tape_alone ++ (put_of (codes "/atlas/c") 5 ∷ stage_a 200 ∷ []))
 
 -- both copies of a file wait for a drive, and the first drive has mounted the first copy's tape
 abbrev pub first_copy_mounted : History

@@ -10,7 +10,7 @@ use Rattle.cta_model.specs.Recalls.{recall_job}
 use Rattle.cta_model.specs.Jobs.{job_of}
 use Rattle.cta_model.specs.Kept.{history_of}
 use Rattle.cta_model.specs.Examples.{one_copy_site, somebody, sum_of_size, put_a, put_b, delete_of, stage_a, first_job, first_item, item_of, archive_one, a_to_tape_alone}
-use Rattle.cta_examples.specs.Sites.{small_site, small_two_copy_site, one_try_site}
+use Rattle.cta_examples.specs.Sites.{small_buffer_site, small_two_copy_site, one_try_site}
 use Rattle.cta_examples.specs.Asks.{failing_session, retry_a}
 use Rattle.cta_examples.specs.Recalling.{put_byte}
 
@@ -42,7 +42,7 @@ altered = fault.Mismatch (record { len = 5; digest = 1 ∷ [] }) (sum_of_size 5)
 
 -- the first read of a recall is altered, and the session reads once more
 abbrev pub read_again : History
-read_again = history_of small_site [] (a_to_tape_alone
+read_again = history_of small_buffer_site [] (a_to_tape_alone
     ++ (stage_a 200 ∷ (200, ask.Next 0) ∷ (200, ask.Claim 9) ∷ (200, ask.Failed 9 altered (rows (recall_job 8 1 ∷ [])) (rows []))
     ∷ (200, ask.Claim 9) ∷ (200, ask.Recalled 9 (recall_job 8 1)) ∷ (200, ask.End 9 None) ∷ []))
 

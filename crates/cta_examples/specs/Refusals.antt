@@ -15,8 +15,8 @@ abbrev pub staged : History
 staged = history_of one_copy_site [] (put_a ∷ stage_a 100 ∷ [])
 
 -- a tape is mounted, as entry 2, and nothing is claimed yet
-abbrev pub mounted : History
-mounted = history_of one_copy_site [] (put_a ∷ (100, ask.Next 0) ∷ [])
+abbrev pub one_mounted : History
+one_mounted = history_of one_copy_site [] (put_a ∷ (100, ask.Next 0) ∷ [])
 
 -- two files are claimed by the mount 3
 abbrev pub two_claimed : History

@@ -3,11 +3,12 @@ use Rattle.std.specs.Prelude.{[], ◌∷◌, codes}
 use Rattle.cta_site.specs.Listed.{rows}
 use Rattle.cta_site.specs.declared.site.Site.{Site}
 use Rattle.cta_site.specs.declared.site.RuleKind.TheVariants as rule
-use Rattle.cta_model.specs.Examples.{one_copy_site, two_copy_site, two_tape_site, with_small_buffer, small_limits, tape, drive, standard_policy, fast_policy}
+use Rattle.cta_site.specs.Sites.{small_limits}
+use Rattle.cta_model.specs.Examples.{one_copy_site, two_copy_site, two_tape_site, with_small_buffer, tape, drive, standard_policy, fast_policy}
 
 -- one copy on one tape, and a buffer of 10 bytes
-abbrev pub small_site : Site
-small_site = with_small_buffer one_copy_site
+abbrev pub small_buffer_site : Site
+small_buffer_site = with_small_buffer one_copy_site
 
 -- two copies on a tape each, and a buffer of 10 bytes
 abbrev pub small_two_copy_site : Site

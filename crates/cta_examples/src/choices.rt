@@ -1,7 +1,7 @@
 // What a free drive mounts next.
 ghost use Rattle.std.specs.Prelude.{◌≡◌};
 ghost use Rattle.cta_examples.specs.Choices.{file_alone, file_of_fast, file_of_somebody, first_copy_done, first_copy_mounted, one_more_file, two_more_files, write_and_read};
-ghost use Rattle.cta_examples.specs.Sites.{fast_requester_site, small_site, two_drive_site, two_file_site, two_writer_site};
+ghost use Rattle.cta_examples.specs.Sites.{fast_requester_site, small_buffer_site, two_drive_site, two_file_site, two_writer_site};
 ghost use Rattle.cta_model.specs.Answers.{answer_of};
 ghost use Rattle.cta_model.specs.Legal.{IsLegal};
 ghost use Rattle.cta_model.specs.declared.answers.Answer.TheVariants as answer;
@@ -10,8 +10,8 @@ ghost use Rattle.cta_model.specs.declared.asks.Direction.TheVariants as directio
 
 /// At equal priority a write goes before a read.
 pub fn archive_goes_before_retrieve()
-    ensures legal { IsLegal small_site write_and_read }
-    ensures mount { answer_of small_site write_and_read 200 (ask.Next 0) ≡ answer.Mounted 10 direction.Archive 0 }
+    ensures legal { IsLegal small_buffer_site write_and_read }
+    ensures mount { answer_of small_buffer_site write_and_read 200 (ask.Next 0) ≡ answer.Mounted 10 direction.Archive 0 }
 {}
 
 /// A second drive is idle while the one drive that may write for the virtual organisation does, and mounts then.

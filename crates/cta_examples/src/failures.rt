@@ -3,7 +3,7 @@ ghost use Rattle.std.specs.Prelude.{[], ◌∷◌, ◌≡◌, ◌+◌, codes, fa
 ghost use Rattle.cta_examples.specs.Asks.{answer_at, retry_a};
 ghost use Rattle.cta_examples.specs.Failures.{altered, failed_once, failed_twice, flush_failed, load_failed, put_down, read_again, reads_failed, retried, retried_on_tape, up_again, write_failed};
 ghost use Rattle.cta_examples.specs.Recalling.{three_items};
-ghost use Rattle.cta_examples.specs.Sites.{one_try_site, small_site, small_two_copy_site};
+ghost use Rattle.cta_examples.specs.Sites.{one_try_site, small_buffer_site, small_two_copy_site};
 ghost use Rattle.cta_model.specs.Answers.{answer_of};
 ghost use Rattle.cta_model.specs.Charges.{charges_of};
 ghost use Rattle.cta_model.specs.Examples.{first_job, one_copy_site};
@@ -67,10 +67,10 @@ pub fn last_read_fault_fails_the_file()
 
 /// A file that is read with another SHA-256 than the catalogue's charges its recall, and the same mount reads it again.
 pub fn mismatch_charges_one_and_goes_on()
-    ensures legal { IsLegal small_site read_again }
+    ensures legal { IsLegal small_buffer_site read_again }
     ensures charged { charges_of read_again (recall_job 8 1) ≡ record { drive = 0; tape = 0; fault = altered } ∷ [] }
     ensures again { answer_at read_again 12 ≡ answer_at read_again 10 }
-    ensures here { locality_of small_site read_again 1 ≡ locality.DiskAndTape }
+    ensures here { locality_of small_buffer_site read_again 1 ≡ locality.DiskAndTape }
 {}
 
 /// A copy whose last try failed is told with its error until a Retry bears a new job for it. Once that is flushed, a

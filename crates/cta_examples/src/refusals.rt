@@ -1,6 +1,6 @@
 // Each refusal of the archive, met at least once, with the answers to a Next or a Claim that leave no entry.
 ghost use Rattle.std.specs.Prelude.{[], ◌∷◌, ◌≡◌, codes};
-ghost use Rattle.cta_examples.specs.Refusals.{full, mounted, staged, two_claimed};
+ghost use Rattle.cta_examples.specs.Refusals.{full, one_mounted, staged, two_claimed};
 ghost use Rattle.cta_examples.specs.Sites.{short_site};
 ghost use Rattle.cta_model.specs.Answers.{answer_of};
 ghost use Rattle.cta_model.specs.Examples.{first_item, first_job, one_copy_site, one_put, put_a, put_of, somebody, sum_of_size};
@@ -46,16 +46,16 @@ pub fn unknown_path_is_told()
 
 /// A number that no drive or tape has, and a tape that is mounted.
 pub fn operators_are_refused()
-    ensures legal { IsLegal one_copy_site mounted }
-    ensures up { answer_of one_copy_site mounted 100 (ask.DriveUp somebody 1) ≡ answer.Refused refusal.NoDrive }
-    ensures down { answer_of one_copy_site mounted 100 (ask.DriveDown somebody 1) ≡ answer.Refused refusal.NoDrive }
-    ensures next { answer_of one_copy_site mounted 100 (ask.Next 1) ≡ answer.Refused refusal.NoDrive }
-    ensures no_tape { answer_of one_copy_site mounted 100 (ask.TapeState somebody 1 state.Active) ≡ answer.Refused refusal.NoTape }
-    ensures no_reclaim { answer_of one_copy_site mounted 100 (ask.Reclaim somebody 1) ≡ answer.Refused refusal.NoTape }
-    ensures no_repack { answer_of one_copy_site mounted 100 (ask.Repack somebody 1) ≡ answer.Refused refusal.NoTape }
-    ensures told { look_answer_of one_copy_site mounted 100 (look.TapeInfo 1) ≡ answer.Refused refusal.NoTape }
-    ensures in_use { answer_of one_copy_site mounted 100 (ask.TapeState somebody 0 state.Active) ≡ answer.Refused refusal.TapeMounted }
-    ensures in_use_too { answer_of one_copy_site mounted 100 (ask.Reclaim somebody 0) ≡ answer.Refused refusal.TapeMounted }
+    ensures legal { IsLegal one_copy_site one_mounted }
+    ensures up { answer_of one_copy_site one_mounted 100 (ask.DriveUp somebody 1) ≡ answer.Refused refusal.NoDrive }
+    ensures down { answer_of one_copy_site one_mounted 100 (ask.DriveDown somebody 1) ≡ answer.Refused refusal.NoDrive }
+    ensures next { answer_of one_copy_site one_mounted 100 (ask.Next 1) ≡ answer.Refused refusal.NoDrive }
+    ensures no_tape { answer_of one_copy_site one_mounted 100 (ask.TapeState somebody 1 state.Active) ≡ answer.Refused refusal.NoTape }
+    ensures no_reclaim { answer_of one_copy_site one_mounted 100 (ask.Reclaim somebody 1) ≡ answer.Refused refusal.NoTape }
+    ensures no_repack { answer_of one_copy_site one_mounted 100 (ask.Repack somebody 1) ≡ answer.Refused refusal.NoTape }
+    ensures told { look_answer_of one_copy_site one_mounted 100 (look.TapeInfo 1) ≡ answer.Refused refusal.NoTape }
+    ensures in_use { answer_of one_copy_site one_mounted 100 (ask.TapeState somebody 0 state.Active) ≡ answer.Refused refusal.TapeMounted }
+    ensures in_use_too { answer_of one_copy_site one_mounted 100 (ask.Reclaim somebody 0) ≡ answer.Refused refusal.TapeMounted }
 {}
 
 /// A session's ask is Unknown where the mount is not open, a job is not claimed by it, a job is named twice, the items are
@@ -70,7 +70,7 @@ pub fn sessions_are_refused()
     ensures other_order { answer_of one_copy_site two_claimed 100 (ask.Flushed 3 (rows (first_item 2 1 8 2 ∷ first_item 1 1 5 1 ∷ []))) ≡ answer.Refused refusal.Unknown }
     ensures too_few { answer_of one_copy_site two_claimed 100 (ask.Flushed 3 (rows (first_item 1 1 5 1 ∷ []))) ≡ answer.Refused refusal.Unknown }
     ensures still_claimed { answer_of one_copy_site two_claimed 100 (ask.End 3 None) ≡ answer.Refused refusal.Unknown }
-    ensures no_claim { answer_of one_copy_site mounted 100 (ask.Flushed 2 (rows [])) ≡ answer.Refused refusal.Unknown }
+    ensures no_claim { answer_of one_copy_site one_mounted 100 (ask.Flushed 2 (rows [])) ≡ answer.Refused refusal.Unknown }
 {}
 
 /// A history that may not weigh more refuses what would be accepted, and only that; looks are answered still.

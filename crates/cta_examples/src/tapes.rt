@@ -1,7 +1,7 @@
 // Tapes that change their states, are repacked and reclaimed.
 ghost use Rattle.std.specs.Prelude.{[], ◌∷◌, ◌≡◌, codes, false};
-ghost use Rattle.cta_examples.specs.Asks.{answer_at, reclaim_first, repack_first, state_of};
-ghost use Rattle.cta_examples.specs.Sites.{small_site, small_two_copy_site};
+ghost use Rattle.cta_examples.specs.Asks.{answer_at, reclaim_first, repack_first, set_state};
+ghost use Rattle.cta_examples.specs.Sites.{small_buffer_site, small_two_copy_site};
 ghost use Rattle.cta_examples.specs.Tapes.{empty_repack, item_deleted, one_source_left, repack_lost, repack_waits, reclaimed, repack_write_failed, repacked, repacking, tape_active_again, tape_disabled, tape_lost, to_be_repacked, two_sources};
 ghost use Rattle.cta_model.specs.Answers.{answer_of};
 ghost use Rattle.cta_model.specs.Examples.{one_copy_site, two_tape_site};
@@ -58,14 +58,14 @@ pub fn deleted_item_is_gone()
 
 /// The item of a file that is not on disk is READING, and FAILED where the file's last tape is lost.
 pub fn lost_tape_fails_its_repack()
-    ensures waits { IsLegal small_site repack_waits }
-    ensures reading { look_answer_of small_site repack_waits 100 (look.RepackInfo 9) ≡ answer.RepackSeen (record {
+    ensures waits { IsLegal small_buffer_site repack_waits }
+    ensures reading { look_answer_of small_buffer_site repack_waits 100 (look.RepackInfo 9) ≡ answer.RepackSeen (record {
       id = 9;
       vid = codes "V1";
       items = rows (record { path = codes "/atlas/a"; copy = 1; state = item.Reading } ∷ []);
     }) }
-    ensures lost { IsLegal small_site repack_lost }
-    ensures failed { look_answer_of small_site repack_lost 100 (look.RepackInfo 9) ≡ answer.RepackSeen (record {
+    ensures lost { IsLegal small_buffer_site repack_lost }
+    ensures failed { look_answer_of small_buffer_site repack_lost 100 (look.RepackInfo 9) ≡ answer.RepackSeen (record {
       id = 9;
       vid = codes "V1";
       items = rows (record { path = codes "/atlas/a"; copy = 1; state = item.Failed } ∷ []);
@@ -83,25 +83,25 @@ pub fn empty_tape_gives_an_empty_repack()
 /// Where the last tape of a file is BROKEN, the file that is not on disk is LOST, and its recall fails. The tape keeps
 /// that state; what is told of it still counts the file.
 pub fn broken_tape_loses_its_files()
-    ensures legal { IsLegal small_site tape_lost }
-    ensures request { look_answer_of small_site tape_lost 100 (look.StageInfo 8) ≡ answer.Stage (record {
+    ensures legal { IsLegal small_buffer_site tape_lost }
+    ensures request { look_answer_of small_buffer_site tape_lost 100 (look.StageInfo 8) ≡ answer.Stage (record {
       id = 8;
       created_at = 100;
       started_at = None;
       completed_at = Some 100;
       files = rows (record { path = codes "/atlas/a"; state = file.Failed; on_disk = false; started_at = None; finished_at = Some 100; error = Some (codes "no tape is left") } ∷ []);
     }) }
-    ensures lost { locality_of small_site tape_lost 1 ≡ locality.Lost }
-    ensures broken { answer_of small_site tape_lost 100 (state_of 0 state.Active).1 ≡ answer.Refused refusal.TapeBroken }
-    ensures tape { look_answer_of small_site tape_lost 100 (look.TapeInfo 0) ≡ answer.TapeSeen (record { vid = codes "V1"; state = state.Broken; used = 5; files = 1; next_fseq = 2 }) }
+    ensures lost { locality_of small_buffer_site tape_lost 1 ≡ locality.Lost }
+    ensures broken { answer_of small_buffer_site tape_lost 100 (set_state 0 state.Active).1 ≡ answer.Refused refusal.TapeBroken }
+    ensures tape { look_answer_of small_buffer_site tape_lost 100 (look.TapeInfo 0) ≡ answer.TapeSeen (record { vid = codes "V1"; state = state.Broken; used = 5; files = 1; next_fseq = 2 }) }
 {}
 
 /// A file whose only tape is DISABLED is unavailable until the tape is ACTIVE again.
 pub fn disabled_tape_is_unavailable()
-    ensures disabled { IsLegal small_site tape_disabled }
-    ensures unavailable { locality_of small_site tape_disabled 1 ≡ locality.Unavailable }
-    ensures active { IsLegal small_site tape_active_again }
-    ensures on_tape { locality_of small_site tape_active_again 1 ≡ locality.Tape }
+    ensures disabled { IsLegal small_buffer_site tape_disabled }
+    ensures unavailable { locality_of small_buffer_site tape_disabled 1 ≡ locality.Unavailable }
+    ensures active { IsLegal small_buffer_site tape_active_again }
+    ensures on_tape { locality_of small_buffer_site tape_active_again 1 ≡ locality.Tape }
 {}
 
 /// A recall waits for the first tape of its file, and where that is DISABLED, for the second.

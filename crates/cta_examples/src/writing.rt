@@ -2,7 +2,7 @@
 ghost use Rattle.std.specs.Prelude.{[], ◌∷◌, ◌≡◌, codes};
 ghost use Rattle.cta_examples.specs.Asks.{answer_at};
 ghost use Rattle.cta_examples.specs.Choices.{write_and_read};
-ghost use Rattle.cta_examples.specs.Sites.{small_site, small_tape_site};
+ghost use Rattle.cta_examples.specs.Sites.{small_buffer_site, small_tape_site};
 ghost use Rattle.cta_examples.specs.Writing.{deleted_while_claimed, little_room, stale_and_done};
 ghost use Rattle.cta_model.specs.Answers.{answer_of};
 ghost use Rattle.cta_model.specs.Examples.{empty_file_on_tape, first_item, one_copy_site};
@@ -42,8 +42,8 @@ pub fn batch_skips_what_does_not_fit()
 
 /// The queues are told by pool and then by VID, each with the birth moment of its first job.
 pub fn queues_are_told()
-    ensures legal { IsLegal small_site write_and_read }
-    ensures queues { look_answer_of small_site write_and_read 200 look.Queues ≡ answer.QueuesSeen (rows (
+    ensures legal { IsLegal small_buffer_site write_and_read }
+    ensures queues { look_answer_of small_buffer_site write_and_read 200 look.Queues ≡ answer.QueuesSeen (rows (
         record { direction = direction.Archive; key = codes "p1"; files = 1; bytes = 5; oldest = 100 }
         ∷ record { direction = direction.Retrieve; key = codes "V1"; files = 1; bytes = 5; oldest = 200 }
         ∷ [])) }

@@ -165,8 +165,8 @@ live_cases e h f live =
 
 -- ---- the invariant
 
-IsKept : Site → History → ℕ → Type 0
-IsKept site h f = (is_some (last_arrival h f) ≡ true) ⊎ (is_taped site h f ≡ true)
+IsSomewhere : Site → History → ℕ → Type 0
+IsSomewhere site h f = (is_some (last_arrival h f) ≡ true) ⊎ (is_taped site h f ≡ true)
 
 arrives : (out : Bool) (n : ℕ) (o : Option ℕ) (b : Bool) → b ≡ true → is_some (arrival_after b out n o) ≡ true
 arrives out n o true e = refl
@@ -177,8 +177,8 @@ arrival_cases true out n o e = inl refl
 arrival_cases false true n o e = inr refl
 arrival_cases false false n o e = inl e
 
-kept_step : (site : Site) (h : History) (e : Entry) (f : ℕ) → IsNext site h e → f ≤ length h → IsKept site h f → IsKept site (e ∷ h) f
-unfolding IsKept
+kept_step : (site : Site) (h : History) (e : Entry) (f : ℕ) → IsNext site h e → f ≤ length h → IsSomewhere site h f → IsSomewhere site (e ∷ h) f
+unfolding IsSomewhere
 kept_step site h e f next low kept =
     elim kept [
       | inl here ↦
@@ -187,8 +187,8 @@ kept_step site h e f next low kept =
       | inr taped ↦ inr (taped_stays site e h f low taped)
     ]
 
-kept_live : (site : Site) (h : History) → IsLegal site h → (f : ℕ) → is_live h f ≡ true → IsKept site h f
-unfolding IsKept
+kept_live : (site : Site) (h : History) → IsLegal site h → (f : ℕ) → is_live h f ≡ true → IsSomewhere site h f
+unfolding IsSomewhere
 kept_live site [] legal f live = absurd (cc)
 kept_live site (e ∷ h) legal f live =
     elim (live_cases e h f live) [
@@ -200,7 +200,7 @@ pub resident_by : (h : History) (f : ℕ) → is_live h f ≡ true → is_some (
 resident_by h f live here = rw live here
 
 pub no_file_is_lost : NoFileIsLost
-unfolding IsKept
+unfolding IsSomewhere
 no_file_is_lost site h legal f live =
     elim (kept_live site h legal f live) [ inl here ↦ inl (resident_by h f live here) | inr taped ↦ inr (each_flushed (copies_of_file site h f) h f taped) ]
 

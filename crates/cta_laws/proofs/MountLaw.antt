@@ -19,7 +19,7 @@ use Rattle.cta_model.specs.Tapes.{tape_items, items_after, tape_state, is_broken
 use Rattle.cta_model.specs.Places.{place_of, last_flushed, fseq_after, flushed_in}
 use Rattle.cta_model.specs.Answers.{answer_of, is_accepted, is_too_heavy, is_known, is_last_batch, reclaim_answer, live_copies_on}
 use Rattle.cta_model.specs.Legal.{IsLegal, IsNext}
-use Rattle.cta_laws.specs.Mounts.{are_about_others, IsKept, OpenMountStays, TapesAreMountedOnce}
+use Rattle.cta_laws.specs.Mounts.{are_about_others, IsMountKept, OpenMountStays, TapesAreMountedOnce}
 use Rattle.cta_laws.proofs.Tests.{bool_cases, or_left, or_right, or_cases}
 use Rattle.cta_laws.proofs.OpenMounts.{mount_older, mount_newest, open_older}
 use Rattle.cta_laws.proofs.PlaceLaw.{flushed_known, reclaim_none, place_cases, flushed_below, live_before, live_place}
@@ -178,7 +178,7 @@ open_mount_stays site [] h m legal op others = record { still_open = op; same_ta
 open_mount_stays site (e ∷ newer) h m legal op others =
     let parts : (not (asked_mount e.ask == m) ≡ true) × (are_about_others m newer ≡ true) = and_parts _ _ others in
     let d : (asked_mount e.ask == m) ≡ false = not_is _ parts.0 in
-    let kept : IsKept (newer ++ h) h m = open_mount_stays site newer h m legal.0 op parts.1 in
+    let kept : IsMountKept (newer ++ h) h m = open_mount_stays site newer h m legal.0 op parts.1 in
     let same : tape_of_mount (newer ++ h) m ≡ tape_of_mount h m = kept.same_tape in
     record {
       still_open = other_open e.ask e.answer (length (newer ++ h) + 1) m (open_mounts (newer ++ h)) d kept.still_open;

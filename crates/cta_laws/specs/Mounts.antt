@@ -39,7 +39,7 @@ are_about_others m newer = list_all (λ (e : Entry). not (asked_mount e.ask == m
 
 -- what a mount that is open in h keeps in a longer history: it is open and claims the same, the items of its tape are those of
 -- before, and each place on its tape was one before
-pub record IsKept (longer h : History) (m : ℕ) : Type 0 where
+pub record IsMountKept (longer h : History) (m : ℕ) : Type 0 where
   pub still_open : is_open longer m ≡ true
   pub same_tape : tape_of_mount longer m ≡ tape_of_mount h m
   pub same_claims : claimed_items longer m ≡ claimed_items h m
@@ -49,7 +49,7 @@ pub record IsKept (longer h : History) (m : ℕ) : Type 0 where
 -- an open mount stays in each longer legal history whose new entries are about others
 abbrev pub OpenMountStays : Type 0
 OpenMountStays =
-    (site : Site) (newer h : History) (m : ℕ) → IsLegal site (newer ++ h) → is_open h m ≡ true → are_about_others m newer ≡ true → IsKept (newer ++ h) h m
+    (site : Site) (newer h : History) (m : ℕ) → IsLegal site (newer ++ h) → is_open h m ≡ true → are_about_others m newer ≡ true → IsMountKept (newer ++ h) h m
 
 -- in a legal history two open mounts have two tapes
 abbrev pub TapesAreMountedOnce : Type 0

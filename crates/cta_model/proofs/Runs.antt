@@ -104,7 +104,7 @@ bool_cases false = inr refl
 low_moment : (t n : ℕ) → nat_le t n ≡ true → t ≤ n
 low_moment t n e = grind arith
 
-legal_after : (site : Site) (h : History) (t : ℕ) (k : Ask) → IsLegal site h → t ≤ greatest_moment → IsFit site h k → IsLegal site (history_after site h t k)
+pub legal_after : (site : Site) (h : History) (t : ℕ) (k : Ask) → IsLegal site h → t ≤ greatest_moment → IsFit site h k → IsLegal site (history_after site h t k)
 legal_after site h t k legal low fit = elim (bool_cases (is_accepted (answer_of site h t k))) [
   | inl hit ↦ rw hit (legal, is_next site h t k (answer_of site h t k) legal low fit refl hit)
   | inr miss ↦ rw miss legal

@@ -1,8 +1,8 @@
 -- Sites and histories to try the definitions on.
 use Rattle.std.specs.Prelude.{ℕ, List, [], ◌∷◌, ◌++◌, None, codes}
 use Rattle.cta_site.specs.Listed.{rows}
+use Rattle.cta_site.specs.Sites.{small_limits}
 use Rattle.cta_site.specs.declared.site.Site.{Site}
-use Rattle.cta_site.specs.declared.site.Limits.{Limits}
 use Rattle.cta_site.specs.declared.site.TapePool.{TapePool}
 use Rattle.cta_site.specs.declared.site.Tape.{Tape}
 use Rattle.cta_site.specs.declared.site.Drive.{Drive}
@@ -24,10 +24,6 @@ use Rattle.cta_model.specs.Jobs.{job_of}
 use Rattle.cta_model.specs.Kept.{history_of}
 
 -- ---- sites
-
--- limits with a buffer of 1,000 bytes, a mount warranted by one file or 100 bytes, and 3 tries of a job
-abbrev pub small_limits : Limits
-small_limits = record { buffer = 1000; file = 1000; archive_bytes = 100; retrieve_bytes = 100; archive_files = 1; retrieve_files = 1; batch_files = 10; tries = 3; history = 1000; lifetime = 60 }
 
 -- a pool of this name, of the VO atlas
 abbrev pub pool : List ℕ → TapePool

@@ -1,5 +1,5 @@
 -- What an archive keeps, as contracts see it.
-use Rattle.std.specs.Prelude.{ℕ, List, [], ◌∷◌, ◌≡◌, true, if◌then◌else◌}
+use Rattle.std.specs.Prelude.{ℕ, List, [], ◌∷◌, ◌≡◌, ◌≤◌, true, if◌then◌else◌}
 use Rattle.std.specs.List.{AllByRecursion}
 use Rattle.cta_site.specs.declared.site.Site.{Site}
 use Rattle.cta_model.specs.declared.entries.Entry.{Entry}
@@ -7,7 +7,7 @@ use Rattle.cta_model.specs.declared.asks.Ask.{Ask}
 use Rattle.cta_model.specs.declared.answers.Answer.{Answer}
 use Rattle.cta_model.specs.History.{History}
 use Rattle.cta_model.specs.Answers.{answer_of, is_accepted, is_built}
-use Rattle.cta_model.specs.Legal.{new_entry}
+use Rattle.cta_model.specs.Legal.{IsFit, IsLegal, greatest_moment, new_entry}
 
 -- a site and a history
 pub record Kept : Type 0 where
@@ -30,3 +30,7 @@ history_after site h t k = let a = answer_of site h t k in if is_accepted a then
 abbrev pub history_of : Site → History → List (ℕ × Ask) → History
 history_of site h [] = h
 history_of site h (x ∷ xs) = history_of site (history_after site h x.0 x.1) xs
+
+-- the history behind an ask that is fit is legal where it was legal before
+abbrev pub KeepsLegal : Type 0
+KeepsLegal = (site : Site) (h : History) (t : ℕ) (k : Ask) → IsLegal site h → t ≤ greatest_moment → IsFit site h k → IsLegal site (history_after site h t k)

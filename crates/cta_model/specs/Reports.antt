@@ -1,10 +1,9 @@
 -- What looks report: files, stage requests, repacks, failed copies, tapes and queues.
-use Rattle.std.specs.Prelude.{ℕ, zero, suc, length, List, [], ◌∷◌, ◌++◌, Option, Some, None, Bool, false, if◌then◌else◌, ◌==◌, ◌&&◌, min, max, map, filter, slice_get, codes}
+use Rattle.std.specs.Prelude.{ℕ, zero, suc, length, List, [], ◌∷◌, ◌++◌, Option, Some, None, Bool, false, if◌then◌else◌, ◌==◌, ◌&&◌, min, max, map, filter, codes}
 use Rattle.std.specs.List.{range_with_len}
 use Rattle.cta_site.specs.declared.site.Site.{Site}
-use Rattle.cta_site.specs.declared.site.TapePool.{TapePool}
 use Rattle.cta_site.specs.Listed.{rows}
-use Rattle.cta_site.specs.Lookups.{vid_of}
+use Rattle.cta_site.specs.Lookups.{pool_name, vid_of}
 use Rattle.cta_model.specs.declared.asks.Direction.{Direction}
 use Rattle.cta_model.specs.declared.asks.Direction.TheVariants as direction
 use Rattle.cta_model.specs.declared.asks.Job.{Job}
@@ -145,15 +144,6 @@ tape_report site h v = record {
 }
 
 -- ---- queues
-
--- the name of a pool, empty where there is no pool
-abbrev pub name_of_pool : Option TapePool → List ℕ
-name_of_pool None = []
-name_of_pool (Some p) = p.name
-
--- the name of the pool of this number
-abbrev pub pool_name : Site → ℕ → List ℕ
-pool_name site pool = name_of_pool (slice_get site.pools.items pool)
 
 -- what is told of a queue that is not empty: its files and bytes, and the moment of its first job's birth
 abbrev pub queue_report : History → Direction → List ℕ → List Job → List QueueInfo

@@ -6,6 +6,7 @@ mod answers;
 mod asks;
 mod entries;
 mod examples;
+mod laws;
 mod reports;
 mod states;
 
@@ -20,6 +21,7 @@ pub use examples::{
     priority_goes_before_age, put_is_on_disk, queued_copy_keeps_its_file,
     returned_jobs_keep_their_place,
 };
+pub use laws::histories_stay_legal;
 pub use reports::{
     FailedCopy, FileState, ItemState, Locality, PlaceInfo, QueueInfo, RepackInfo, RepackItem,
     StageFileInfo, StageInfo, TapeInfo,

@@ -1,8 +1,8 @@
 use Rattle.std.specs.Prelude.{refl, []}
 use Rattle.cta_examples.specs.Recalling.{one_recall_for_two}
-use Rattle.cta_examples.specs.Sites.{small_site}
+use Rattle.cta_examples.specs.Sites.{small_buffer_site}
 use Rattle.cta_model.proofs.Runs.{replay_is_legal}
 use Rattle.cta_examples.proofs.recalling.one_recall_serves_two_requests.Goals as goal
 
 pub returns-clause-legal : goal.returns-clause-legal
-returns-clause-legal c = replay_is_legal small_site [] one_recall_for_two tt refl refl
+returns-clause-legal c = replay_is_legal small_buffer_site [] one_recall_for_two tt refl refl

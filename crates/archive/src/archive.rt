@@ -10,7 +10,7 @@ ghost use Rattle.cta_model.specs.History.{moment_of};
 ghost use Rattle.cta_model.specs.Kept.{kept_after, AreBuilt};
 ghost use Rattle.cta_model.specs.Legal.{greatest_moment, IsLegal};
 ghost use Rattle.cta_model.specs.Newest.{history_in};
-ghost use Rattle.archive.specs.Puts.{first_refusal, put_refusal, IsKept};
+ghost use Rattle.archive.specs.Puts.{first_refusal, put_refusal, IsArchived};
 
 use crate::files::live_file;
 use crate::localities::place_infos;
@@ -19,7 +19,7 @@ use cta_site::{ValidSite, is_path};
 use std::alloc::Global;
 use std::marker::Model;
 
-/// The moment of a call that is given this one.
+// The moment of a call that is given this one.
 #[tactic(auto, using(cta_model::proofs::Newest::scans, cta_model::proofs::Newest::moments))]
 fn moment_of(entries: &[Entry], at: u64) -> u64
     ensures { result ≡ moment_of (history_in entries.now) at }
@@ -32,7 +32,7 @@ fn moment_of(entries: &[Entry], at: u64) -> u64
     }
 }
 
-/// The first refusal of a Put by these tests.
+// The first refusal of a Put by these tests.
 fn first_refusal(bad: bool, foreign: bool, taken: bool, full: bool, heavy: bool) -> Option<Refusal>
     ensures { result ≡ first_refusal bad foreign taken full heavy }
 {
@@ -51,7 +51,7 @@ fn first_refusal(bad: bool, foreign: bool, taken: bool, full: bool, heavy: bool)
     }
 }
 
-/// The answer to a Put that evicts nothing.
+// The answer to a Put that evicts nothing.
 fn stored(alloc: Global) -> Answer
     ensures { bare_answer result ≡ Answer.Stored (rows []) }
 {
@@ -60,7 +60,7 @@ fn stored(alloc: Global) -> Answer
     }
 }
 
-/// The refusal of an ask, which is let go.
+// The refusal of an ask, which is let go.
 fn refused(_ask: Ask, refusal: Refusal) -> Answer
     ensures { result ≡ Answer.Refused refusal }
 {
@@ -83,14 +83,14 @@ impl Model for Archive {
     ghost use Rattle.std.specs.Prelude.{◌≡◌};
     ghost use Rattle.cta_model.specs.Kept.{Kept};
     ghost use Rattle.cta_model.specs.Newest.{history_in};
-    ghost use Rattle.archive.specs.Puts.{IsKept, stored_bytes};
+    ghost use Rattle.archive.specs.Puts.{IsArchived, stored_bytes};
 
     ghost Value = { Kept };
 
     ghost view = { λ a. record { site = a.site; history = history_in a.entries.items } };
 
     ghost invariant = { λ a. record {
-      kept : IsKept a.site (history_in a.entries.items);
+      kept : IsArchived a.site (history_in a.entries.items);
       stored : a.stored ≡ stored_bytes (history_in a.entries.items);
     } };
 }
@@ -125,17 +125,17 @@ impl Archive {
         let _entries = &self.entries;
     }
 
-    /// The moment of a call that is given this one.
+    // The moment of a call that is given this one.
     fn moment_of(&self, at: u64) -> u64
         ensures { result ≡ moment_of self.now.history at }
     {
         moment_of(&self.entries, at)
     }
 
-    /// Why a Put of so many bytes under this path is refused.
+    // Why a Put of so many bytes under this path is refused.
     fn put_refusal(&self, path: &Text, size: u64) -> Option<Refusal>
         ensures refusal { result ≡ put_refusal self.now.site self.now.history path.now size }
-        ensures kept { IsKept self.now.site self.now.history }
+        ensures kept { IsArchived self.now.site self.now.history }
     {
         let limits = self.site.limits();
         let bytes = path.as_str().as_bytes();
@@ -147,9 +147,9 @@ impl Archive {
         first_refusal(bad, foreign, taken, full, heavy)
     }
 
-    /// Appends an entry whose file has this size. An error gives the entry back, and nothing has changed.
+    // Appends an entry whose file has this size. An error gives the entry back, and nothing has changed.
     fn append(&mut self, entry: Entry, size: u64) -> Result<(), (NoMemory, Entry)>
-        requires kept { IsKept self.old.site (bare_entry entry ∷ self.old.history) }
+        requires kept { IsArchived self.old.site (bare_entry entry ∷ self.old.history) }
         requires size { size ≡ (sum_in (bare_ask entry.ask)).len }
         ensures ok { OnOk result (self.new ≡ record self.old { history = bare_entry entry ∷ self.old.history }) }
         ensures back { IfErr result (λ e. e.1 ≡ entry) }

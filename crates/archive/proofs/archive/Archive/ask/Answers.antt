@@ -1,8 +1,8 @@
 use Rattle.std.proofs.Common.{◌≡◌, ◌∷◌, Some, None, sym, subst, ◌∙◌}
 use Rattle.cta_model.specs.declared.entries.Entry.{Entry}
-use Rattle.archive.specs.Puts.{put_refusal, IsKept}
+use Rattle.archive.specs.Puts.{put_refusal, IsArchived}
 use Rattle.archive.proofs.PutAnswers.{put_refused, put_stored, put_kept, put_entry}
-use Rattle.archive.proofs.kept.Archive.ask.Goals as goal
+use Rattle.archive.proofs.archive.Archive.ask.Goals as goal
 
 pub returns-in-Some-clause-answer : goal.returns-in-Some-clause-answer
 returns-in-Some-clause-answer c =
@@ -15,7 +15,7 @@ append-requires-clause-kept c =
     let kept = c.put_refusal.ensures.kept in
     let passed : put_refusal c.args.self.now.site c.args.self.now.history c.in-Put.path c.in-Put.sum.len ≡ None = sym c.put_refusal.ensures.refusal ∙ c.in_default-put_refusal.is in
     let entry = put_entry c.args.self.now.history c.args.at c.moment_of.result c.in-Put.who c.in-Ok.who c.in-Put.path c.in-Put.sum c.args.ask c.stored.result c.moment_of.ensures c.in-Ok.ensures c.in-Put.is c.stored.ensures in
-    subst (λ (e : Entry). IsKept c.args.self.now.site (e ∷ c.args.self.now.history)) (sym entry)
+    subst (λ (e : Entry). IsArchived c.args.self.now.site (e ∷ c.args.self.now.history)) (sym entry)
     (put_kept c.args.self.now.site c.args.self.now.history c.args.at c.in-Put.who c.in-Put.path c.in-Put.sum kept c.requires.at passed)
 
 pub returns-in-Ok-append-clause-answer : goal.returns-in-Ok-append-clause-answer
