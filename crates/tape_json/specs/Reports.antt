@@ -178,8 +178,8 @@ refusal_text Refusals.LiveFiles = Some (codes "tape has live files")
 refusal_text Refusals.NotRepacking = Some (codes "tape is not repacking")
 refusal_text Refusals.RepackLive = Some (codes "repack is live")
 refusal_text Refusals.NoRepack = Some (codes "no such repack")
+refusal_text Refusals.NotBuilt = Some (codes "not built")
 refusal_text Refusals.Unknown = None
-refusal_text Refusals.NotBuilt = None
 
 -- an object with one member
 abbrev pub one_member : List ℕ → Data → Data

@@ -78,11 +78,9 @@ pub fn write_answer(alloc: Global, _site: &ValidSite, answer: &Answer) -> Result
     ensures value { IfOk result (λ text. read text ≡ report_of answer.now) }
 {
     let mut out = Writer::new(Vec::new(alloc));
-    match write_report(&mut out, answer) {
-        Ok(()) => match String::from_utf8(out.into_inner()) {
-            Ok(text) => Ok(Text::of(text)),
-            Err(_) => unreachable!(),
-        },
-        Err(_) => Err(NoMemory),
+    write_report(&mut out, answer)?;
+    match String::from_utf8(out.into_inner()) {
+        Ok(text) => Ok(Text::of(text)),
+        Err(_) => unreachable!(),
     }
 }

@@ -5,7 +5,7 @@ ghost use Rattle.tape_json.specs.Bodies.{body_data};
 
 use cta_site::{NoMemory, Text};
 use serde_json::Value;
-use std::alloc::Global;
+use std::alloc::{AllocFailed, Global};
 
 /// Why a body of a request is not read. Of the first three the first that holds is named, in their order.
 #[derive(Clone, Copy, Debug, PartialEq, Eq)]
@@ -27,6 +27,17 @@ impl From<NoMemory> for BodyError {
     ghost from_gives = { λ _ e. e ≡ NoMemory };
 
     fn from(_error: NoMemory) -> BodyError {
+        BodyError::NoMemory
+    }
+}
+
+impl<T: Drop> From<AllocFailed<T>> for BodyError {
+    ghost use Rattle.std.specs.Prelude.{◌≡◌};
+    ghost use Rattle.tape_json.specs.declared.body.BodyError.TheVariants.{NoMemory};
+
+    ghost from_gives = { λ _ e. e ≡ NoMemory };
+
+    fn from(_failed: AllocFailed<T>) -> BodyError {
         BodyError::NoMemory
     }
 }
@@ -53,8 +64,6 @@ pub(crate) fn body_value(alloc: Global, bytes: &[u8]) -> Result<Value, BodyError
 pub(crate) fn text_of(alloc: Global, text: &str) -> Result<Text, NoMemory>
     ensures { IfOk result (λ t. t ≡ text.now) }
 {
-    match String::from_str(alloc, text) {
-        Ok(string) => Ok(Text::of(string)),
-        Err(_) => Err(NoMemory),
-    }
+    let string = String::from_str(alloc, text)?;
+    Ok(Text::of(string))
 }

@@ -23,4 +23,6 @@ pub use stage::read_stage;
 pub use words::{read_state, read_vid};
 
 #[cfg(test)]
-mod tests;
+mod body_tests;
+#[cfg(test)]
+mod report_tests;

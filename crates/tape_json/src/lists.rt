@@ -31,10 +31,7 @@ fn texts_of(alloc: Global, items: &[Value]) -> Result<Vec<Text>, BodyError>
     let mut texts = Vec::new(alloc);
     'items: for item in items {
         match item.as_str() {
-            Some(text) => match texts.push(text_of(alloc, text)?) {
-                Ok(()) => {}
-                Err(_) => return Err(BodyError::NoMemory),
-            },
+            Some(text) => texts.push(text_of(alloc, text)?)?,
             None => return Err(BodyError::BadBody),
         }
     }

@@ -52,10 +52,7 @@ fn all_wanted(alloc: Global, files: &[Value]) -> Result<Vec<Wanted>, BodyError>
     let mut wanted = Vec::new(alloc);
     'files: for file in files {
         match wanted_of(alloc, file) {
-            Ok(next) => match wanted.push(next) {
-                Ok(()) => {}
-                Err(_) => return Err(BodyError::NoMemory),
-            },
+            Ok(next) => wanted.push(next)?,
             Err(error) => return Err(error),
         }
     }

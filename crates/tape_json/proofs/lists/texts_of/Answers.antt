@@ -12,4 +12,4 @@ pub items-preserved : goal.items-preserved
 items-preserved c =
     all_read-more as_str view c.args.items.now c.items.item-index c.item-item.result c.items.texts.items c.in_ok-text_of-in-Some.field-0 c.items-test.true c.item-item.is
     c.items.invariant (sym c.in-Some.ensures ∙ ap Some (sym c.in_ok-text_of-in-Some.ensures))
-    ∙ ap Some (sym c.in-Ok.ensures.items)
+    ∙ ap Some (sym c.in_ok-push-in-Some.ensures.items)

@@ -13,4 +13,4 @@ pub files-preserved : goal.files-preserved
 files-preserved c =
     all_read-more wanted_of view c.args.files.now c.files.file-index c.file-item.result c.files.wanted.items c.in-Ok.next c.files-test.true c.file-item.is
     c.files.invariant c.in-Ok.ensures.value
-    ∙ ap Some (sym c.in-Ok-push.ensures.items)
+    ∙ ap Some (sym c.in_ok-push-in-Ok.ensures.items)

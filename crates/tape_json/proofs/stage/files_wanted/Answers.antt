@@ -23,7 +23,7 @@ returns-else-is_empty-clause-value c =
     files_wanted-paths c.args.files.now (sym c.all_have_paths.ensures ∙ c.if-not-all_have_paths.false)
     ∙ ap (filled BadLifetime) c.in-Ok.ensures.value
     ∙ filled-items BadLifetime c.in-Ok.wanted.items some
-    ∙ ap Ok (sym c.of.ensures)
+    ∙ ap Ok (sym c.of.ensures.items)
 
 pub returns-in-Err-clause-cause : goal.returns-in-Err-clause-cause
 returns-in-Err-clause-cause c other =

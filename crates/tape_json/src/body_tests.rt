@@ -1,0 +1,260 @@
+// Bodies of requests, with ample memory.
+use crate::{BodyError, read_paths, read_stage, read_state, read_vid};
+use cta_site::TapeState;
+use std::alloc::{AllocError, Global};
+use std::test::Fail;
+
+fn word_of(error: BodyError) -> &'static str {
+    match error {
+        BodyError::BadBody => "bad body",
+        BodyError::BadLifetime => "bad lifetime",
+        BodyError::EmptyList => "empty list",
+        BodyError::NoMemory => "no memory",
+    }
+}
+
+// What a stage body is read as: the path and the lifetime of its last file, or its fault.
+fn last_wanted(alloc: Global, body: &str) -> (&'static str, usize, Option<u64>) {
+    match read_stage(alloc, body.as_bytes()) {
+        Ok(files) => match files.as_slice().last() {
+            Some(file) => ("ok", file.path.as_str().len(), file.lifetime),
+            None => ("none", 0, None),
+        },
+        Err(error) => (word_of(error), 0, None),
+    }
+}
+
+// How many paths a body has, or its fault.
+fn paths_word(alloc: Global, body: &[u8]) -> (&'static str, usize) {
+    match read_paths(alloc, body) {
+        Ok(paths) => ("ok", paths.len()),
+        Err(error) => (word_of(error), 0),
+    }
+}
+
+fn state_word(alloc: Global, body: &str) -> (&'static str, Option<TapeState>) {
+    match read_state(alloc, body.as_bytes()) {
+        Ok(state) => ("ok", Some(state)),
+        Err(error) => (word_of(error), None),
+    }
+}
+
+fn vid_word(alloc: Global, body: &str) -> (&'static str, usize) {
+    match read_vid(alloc, body.as_bytes()) {
+        Ok(vid) => ("ok", vid.as_str().len()),
+        Err(error) => (word_of(error), 0),
+    }
+}
+
+// Stage bodies, each with its value or its first fault.
+const STAGE_BODIES: [(&str, (&str, usize, Option<u64>)); 16] = [
+    (r#"{"files":[{"path":"/a"}]}"#, ("ok", 2, None)),
+    (
+        r#"{"files":[{"path":"/a","diskLifetime":null}]}"#,
+        ("ok", 2, None),
+    ),
+    (
+        r#"{"files":[{"path":"/a","path":"/bc","more":1}],"x":[]}"#,
+        ("ok", 3, None),
+    ),
+    (
+        r#"{"files":[{"path":"/a"},{"path":"","diskLifetime":"PT1S"}]}"#,
+        ("ok", 0, Some(1)),
+    ),
+    (
+        r#"{"files":[{"path":"/a","targetedMetadata":7}]}"#,
+        ("ok", 2, None),
+    ),
+    (
+        r#"{"files":[{"path":"/a","diskLifetime":3600}]}"#,
+        ("bad lifetime", 0, None),
+    ),
+    (
+        r#"{"files":[{"path":"/a","diskLifetime":"x"}]}"#,
+        ("bad lifetime", 0, None),
+    ),
+    (
+        r#"{"files":[{"path":"/a","diskLifetime":"x"},{"path":1}]}"#,
+        ("bad body", 0, None),
+    ),
+    (r#"{"files":[]}"#, ("empty list", 0, None)),
+    (r#"{"files":{}}"#, ("bad body", 0, None)),
+    (r#"{"files":null}"#, ("bad body", 0, None)),
+    (r#"{"files":["/a"]}"#, ("bad body", 0, None)),
+    (r#"{"paths":["/a"]}"#, ("bad body", 0, None)),
+    (r#"[{"path":"/a"}]"#, ("bad body", 0, None)),
+    (r#"{"files":[{"path":"/a"}]"#, ("bad body", 0, None)),
+    ("", ("bad body", 0, None)),
+];
+
+// The first of these bodies that is read otherwise.
+fn wrong_stage_body(alloc: Global) -> Option<&'static str> {
+    for (body, wanted) in STAGE_BODIES {
+        if last_wanted(alloc, body) != wanted {
+            return Some(body);
+        }
+    }
+    None
+}
+
+// The seconds of lifetimes (ISO 8601), None where they are bad.
+const LIFETIMES: [(&str, Option<u64>); 26] = [
+    ("P0Y", Some(0)),
+    ("P0M", Some(0)),
+    ("PT0S", Some(0)),
+    ("-PT0S", Some(0)),
+    ("-PT1S", None),
+    ("-PT0.5S", None),
+    ("P1Y", None),
+    ("P1M", None),
+    ("PT1M", Some(60)),
+    ("PT0.5H", Some(1800)),
+    ("PT0.5S", Some(0)),
+    ("PT1.9S", Some(1)),
+    ("PT24H", Some(86_400)),
+    ("P1D", Some(86_400)),
+    ("P1W", Some(604_800)),
+    ("P1W2DT3H4M5S", Some(788_645)),
+    ("+PT1S", Some(1)),
+    ("pt1h", Some(3600)),
+    ("PT631107417600S", Some(631_107_417_600)),
+    ("PT631107417601S", Some(631_107_417_600)),
+    ("1 hour", None),
+    ("24h", None),
+    ("", None),
+    ("P", None),
+    ("PT", None),
+    ("PT1S ", None),
+];
+
+// What a lifetime is read as.
+fn lifetime_of(alloc: Global, text: &str) -> Result<(&'static str, Option<u64>), AllocError> {
+    let body = format!(in alloc;
+        "{{\"files\":[{{\"path\":\"/a\",\"diskLifetime\":\"{text}\"}}]}}"
+    )?;
+    let (word, _, lifetime) = last_wanted(alloc, body.as_str());
+    Ok((word, lifetime))
+}
+
+// The first of these lifetimes that is read otherwise.
+fn wrong_lifetime(alloc: Global) -> Result<Option<&'static str>, AllocError> {
+    for (text, wanted) in LIFETIMES {
+        let word = if wanted.is_some() {
+            "ok"
+        } else {
+            "bad lifetime"
+        };
+        if lifetime_of(alloc, text)? != (word, wanted) {
+            return Ok(Some(text));
+        }
+    }
+    Ok(None)
+}
+
+// A stage body of 1,000 files from f0000 to f0999.
+fn thousand_files(alloc: Global) -> Result<String, AllocError> {
+    let mut body = String::from_str(alloc, "{\"files\":[")?;
+    for k in 0..1000u32 {
+        if k > 0 {
+            body.push_str(",")?;
+        }
+        let path = format!(in alloc; "{{\"path\":\"/atlas/run/f{k:04}\",")?;
+        body.push_str(path.as_str())?;
+        body.push_str(
+            r#""diskLifetime":"PT24H","targetedMetadata":{"atlas":{"activity":"rebalancing"}}}"#,
+        )?;
+    }
+    body.push_str("]}")?;
+    Ok(body)
+}
+
+// How many of these files have the lifetime of a day and the path of their place.
+fn days_in_order(alloc: Global, body: &str) -> Result<usize, Fail> {
+    let Ok(files) = read_stage(alloc, body.as_bytes()) else {
+        return Ok(0);
+    };
+    let mut found = 0usize;
+    for (k, file) in files.as_slice().iter().enumerate() {
+        let path = format!(in alloc; "/atlas/run/f{k:04}")?;
+        if file.path.is(path.as_str().as_bytes()) && file.lifetime == Some(86_400) {
+            found = found.saturating_add(1);
+        }
+    }
+    Ok(found)
+}
+
+// A body with a VID that nests so deep.
+fn nested(alloc: Global, depth: usize) -> Result<String, AllocError> {
+    let mut body = String::from_str(alloc, "{\"vid\":\"V1\",\"x\":")?;
+    for _ in 1..depth {
+        body.push_str("[")?;
+    }
+    for _ in 1..depth {
+        body.push_str("]")?;
+    }
+    body.push_str("}")?;
+    Ok(body)
+}
+
+const PATHS: [(&[u8], (&str, usize)); 7] = [
+    (br#"{"paths":["/a","/a","/b"]}"#, ("ok", 3)),
+    (br#" { "paths" : [ "" ] , "x" : 1 } "#, ("ok", 1)),
+    (br#"{"paths":[]}"#, ("empty list", 0)),
+    (br#"{"paths":["/a",1]}"#, ("bad body", 0)),
+    (br#"{"paths":"/a"}"#, ("bad body", 0)),
+    (br#"{"files":[]}"#, ("bad body", 0)),
+    (b"{\"paths\":[\"\xff\"]}", ("bad body", 0)),
+];
+
+// The first of these bodies of paths that is read otherwise.
+fn wrong_paths(alloc: Global) -> Option<&'static [u8]> {
+    for (body, wanted) in PATHS {
+        if paths_word(alloc, body) != wanted {
+            return Some(body);
+        }
+    }
+    None
+}
+
+const STATES: [(&str, Option<TapeState>); 6] = [
+    (r#"{"state":"ACTIVE"}"#, Some(TapeState::Active)),
+    (r#"{"state":"DISABLED"}"#, Some(TapeState::Disabled)),
+    (r#"{"state":"BROKEN"}"#, Some(TapeState::Broken)),
+    (r#"{"state":"REPACKING"}"#, Some(TapeState::Repacking)),
+    (r#"{"state":"active"}"#, None),
+    (r#"{"state":null}"#, None),
+];
+
+// The first of these bodies of a state that is read otherwise.
+fn wrong_state(alloc: Global) -> Option<&'static str> {
+    for (body, wanted) in STATES {
+        if state_word(alloc, body).1 != wanted {
+            return Some(body);
+        }
+    }
+    None
+}
+
+#[test]
+fn bodies(rt: HostRuntime) {
+    let alloc = rt.alloc();
+    assert_eq!(rt; wrong_stage_body(alloc), None);
+    assert_eq!(rt; wrong_lifetime(alloc), Ok(None));
+    assert_eq!(rt; wrong_paths(alloc), None);
+    assert_eq!(rt; wrong_state(alloc), None);
+    assert_eq!(rt; vid_word(alloc, r#"{"vid":"V00001"}"#), ("ok", 6));
+    assert_eq!(rt; vid_word(alloc, r#"{"vid":1}"#), ("bad body", 0));
+}
+
+#[test]
+fn large_and_deep_bodies(rt: HostRuntime) -> Result<(), Fail> {
+    let alloc = rt.alloc();
+    let body = thousand_files(alloc)?;
+    assert_eq!(rt; body.len(), 107_011);
+    assert_eq!(rt; days_in_order(alloc, body.as_str())?, 1000);
+    let allowed = nested(alloc, 127)?;
+    assert_eq!(rt; vid_word(alloc, allowed.as_str()), ("ok", 2));
+    let deep = nested(alloc, 128)?;
+    assert_eq!(rt; vid_word(alloc, deep.as_str()), ("bad body", 0));
+    Ok(())
+}
