@@ -8,9 +8,10 @@ use Rattle.httparse.specs.Grammar.{RequestHead, print_request, LineEnd, crlf, lf
 use Rattle.wire_http.specs.Rules.{longest_body}
 use Rattle.wire_http.specs.Head.{framing, most_body, expects, IsOpenHead, IsBadHead, ReadsHead, BreaksRule, IsHeadOf}
 use Rattle.conn.specs.Message.{Message, message_text, messages_text, body_text, body_bytes}
-use Rattle.conn.specs.Cut.{Part, InPlain, AtLine, part_text, part_bytes, IsOpenPart, Asked, Event, Continues, Asks, Refuses, asked, told, message_events, messages_events, OpenHead, OpenBody, NoHead, Breaks, NoBody, Closing, IsKept}
+use Rattle.conn.specs.Cut.{Part, InPlain, AtLine, part_text, part_bytes, IsOpenPart, Event, Continues, Requests, Refuses, message_request, told, message_events, messages_events, OpenHead, OpenBody, NoHead, Breaks, NoBody, Closing, IsKept}
 use Rattle.conn.specs.Reading.{start_of, IsAt, Reached, Ends, Fails}
-use Rattle.conn.specs.Stands.{Between, Within, Ended, Unfinished, left_at, request_view, whole_view, IsFinished, BodySteps, BodyStepWithin}
+use Rattle.wire_http.specs.declared.request.Request.{Request}
+use Rattle.conn.specs.Stands.{Between, Within, Ended, Unfinished, left_at, collected_request, IsFinished, BodySteps, BodyStepWithin}
 use Rattle.conn.specs.declared.state.State.{State}
 use Rattle.conn.specs.declared.state.State.TheVariants as state
 use Rattle.wire_http.specs.declared.head.BodyLen.{BodyLen}
@@ -148,28 +149,28 @@ body_fails limit b rest fed given refusal s r = record {
 }
 
 -- a whole request, and what is said of it
-asked_is : (h : RequestHead) (body : List ℕ) (b : Collected) (q : Asked) → IsHeadOf h b.head → b.maker ≡ body → q ≡ whole_view b → q ≡ asked h body
-asked_is h body b q parts bytes is = is ∙ rw (parts.method, parts.target, parts.who, bytes, parts.close) refl
+request_is : (h : RequestHead) (body : List ℕ) (b : Collected) (q : Request) → IsHeadOf h b.head → b.maker ≡ body → q ≡ collected_request b → q ≡ message_request h body
+request_is h body b q parts bytes is = is ∙ rw (parts.method, parts.target, parts.who, bytes, parts.close) refl
 
-pub body_ends : (limit : ℕ) (b : Collected) (rest : List ℕ) (used : ℕ) (fed : List ℕ) (given : List Event) (q : Asked) (s : Within limit b rest fed given)
-    → Ends limit s.head s.part rest used → q ≡ whole_view b
-    → b.head.close ≡ false → Between limit (drop used rest) fed (given ++ Asks q ∷ [])
+pub body_ends : (limit : ℕ) (b : Collected) (rest : List ℕ) (used : ℕ) (fed : List ℕ) (given : List Event) (q : Request) (s : Within limit b rest fed given)
+    → Ends limit s.head s.part rest used → q ≡ collected_request b
+    → b.head.close ≡ false → Between limit (drop used rest) fed (given ++ Requests q ∷ [])
 body_ends limit b rest used fed given q s r is stays =
     let m : Message = record { head = s.head; body = r.body } in
-    let same = asked_is s.head (body_bytes r.body) b q s.in_body.parts (s.in_body.bytes ∙ r.bytes) is in
+    let same = request_is s.head (body_bytes r.body) b q s.in_body.parts (s.in_body.bytes ∙ r.bytes) is in
     record {
       whole = s.whole ++ m ∷ [];
       each = each_push (IsKept limit) s.whole m s.each ((s.in_body.head, r.is_body), sym s.in_body.parts.close ∙ stays);
       text = s.text ∙ ap (λ xs. messages_text s.whole ++ (print_request s.head ++ xs)) r.text ∙ sym (ap (λ xs. xs ++ drop used rest) (push message_text s.whole m) ∙ simp append_assoc);
-      events = ap₂ (λ xs x. xs ++ Asks x ∷ []) s.events same ∙ append_assoc (messages_events s.whole) (told s.head) (Asks (asked s.head (body_bytes r.body)) ∷ []) ∙ sym (push message_events s.whole m);
+      events = ap₂ (λ xs x. xs ++ Requests x ∷ []) s.events same ∙ append_assoc (messages_events s.whole) (told s.head) (Requests (message_request s.head (body_bytes r.body)) ∷ []) ∙ sym (push message_events s.whole m);
     }
 
-pub body_closes : (limit : ℕ) (b : Collected) (rest : List ℕ) (used : ℕ) (fed : List ℕ) (given : List Event) (q : Asked) (s : Within limit b rest fed given)
-    → Ends limit s.head s.part rest used → q ≡ whole_view b
-    → b.head.close ≡ true → Ended limit fed (given ++ Asks q ∷ [])
+pub body_closes : (limit : ℕ) (b : Collected) (rest : List ℕ) (used : ℕ) (fed : List ℕ) (given : List Event) (q : Request) (s : Within limit b rest fed given)
+    → Ends limit s.head s.part rest used → q ≡ collected_request b
+    → b.head.close ≡ true → Ended limit fed (given ++ Requests q ∷ [])
 body_closes limit b rest used fed given q s r is ends =
     let m : Message = record { head = s.head; body = r.body } in
-    let same = asked_is s.head (body_bytes r.body) b q s.in_body.parts (s.in_body.bytes ∙ r.bytes) is in
+    let same = request_is s.head (body_bytes r.body) b q s.in_body.parts (s.in_body.bytes ∙ r.bytes) is in
     record {
       cut = record { whole = s.whole; tail = Closing m (drop used rest) };
       link = record {
@@ -178,7 +179,7 @@ body_closes limit b rest used fed given q s r is ends =
         text = s.text ∙ ap (λ xs. messages_text s.whole ++ (print_request s.head ++ xs)) r.text ∙ ap (λ xs. messages_text s.whole ++ xs) (sym (append_assoc (print_request s.head) (body_text r.body) (drop used rest)));
       };
       final = λ h. h;
-      events = ap₂ (λ xs x. xs ++ Asks x ∷ []) s.events same ∙ append_assoc (messages_events s.whole) (told s.head) (Asks (asked s.head (body_bytes r.body)) ∷ []);
+      events = ap₂ (λ xs x. xs ++ Requests x ∷ []) s.events same ∙ append_assoc (messages_events s.whole) (told s.head) (Requests (message_request s.head (body_bytes r.body)) ∷ []);
     }
 
 -- a body that is whole, as a request or kept for want of memory
@@ -189,8 +190,8 @@ body_finished limit b rest used (step.Need c) fed given s e is = absurd is
 body_finished limit b rest used (step.Refused refusal) fed given s e is = absurd is
 body_finished limit b rest used (step.NoMemory c) fed given s e is = rw is s
 body_finished limit b rest used (step.Whole n r) fed given s e is =
-    let same : r.close ≡ b.head.close = ap (λ (a : Asked). a.close) is.1 in
-    rw is.0 (e.within, λ stays. body_ends limit b rest used fed given (request_view r) s e is.1 (sym same ∙ stays), λ ends. body_closes limit b rest used fed given (request_view r) s e is.1 (sym same ∙ ends))
+    let same : r.close ≡ b.head.close = ap (λ (a : Request). a.close) is.1 in
+    rw is.0 (e.within, λ stays. body_ends limit b rest used fed given r s e is.1 (sym same ∙ stays), λ ends. body_closes limit b rest used fed given r s e is.1 (sym same ∙ ends))
 
 pub finished_within : (rest : List ℕ) (used : ℕ) (b : Collected) (r : BodyStep) → used ≤ length rest → IsFinished used b r → BodyStepWithin rest r
 finished_within rest used b (step.Moved n c) within is = absurd is

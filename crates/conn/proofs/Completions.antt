@@ -4,7 +4,7 @@ use Rattle.std.proofs.lemmas.Grind.{flat_map-append}
 use Rattle.httparse.specs.Grammar.{print_request}
 use Rattle.wire_http.specs.declared.refusal.WireRefusal.{WireRefusal}
 use Rattle.conn.specs.Message.{Message, message_text, messages_text, body_text, body_bytes}
-use Rattle.conn.specs.Cut.{Event, Asks, Refuses, asked, told, message_events, messages_events, OpenBody, Closing, tail_text, tail_events, IsKept, Cut, IsLinkCut, cut_events}
+use Rattle.conn.specs.Cut.{Event, Requests, Refuses, message_request, told, message_events, messages_events, OpenBody, Closing, tail_text, tail_events, IsKept, Cut, IsLinkCut, cut_events}
 use Rattle.conn.specs.Reading.{Fails}
 use Rattle.conn.specs.Stands.{Between, Within, Ended, HasCompletion}
 use Rattle.conn.specs.Walking.{WholeBody, OpenEnd}
@@ -63,7 +63,7 @@ pub closing_completion : (limit : ℕ) (b : Collected) (rest : List ℕ) (used :
     → WholeBody limit s.head s.part rest used → b.head.close ≡ true → HasCompletion limit fed given
 closing_completion limit b rest used fed given s w ends =
     let m : Message = record { head = s.head; body = w.body } in (
-      Asks (asked s.head (body_bytes w.body)) ∷ [],
+      Requests (message_request s.head (body_bytes w.body)) ∷ [],
       record {
         cut = record { whole = s.whole; tail = Closing m (drop used rest) };
         link = record {
@@ -72,23 +72,23 @@ closing_completion limit b rest used fed given s w ends =
           text = s.text ∙ ap (λ xs. messages_text s.whole ++ (print_request s.head ++ xs)) w.text
               ∙ ap (λ xs. messages_text s.whole ++ xs) (sym (append_assoc (print_request s.head) (body_text w.body) (drop used rest)));
         };
-        events = ap (λ es. es ++ Asks (asked s.head (body_bytes w.body)) ∷ []) s.events
-            ∙ append_assoc (messages_events s.whole) (told s.head) (Asks (asked s.head (body_bytes w.body)) ∷ []);
+        events = ap (λ es. es ++ Requests (message_request s.head (body_bytes w.body)) ∷ []) s.events
+            ∙ append_assoc (messages_events s.whole) (told s.head) (Requests (message_request s.head (body_bytes w.body)) ∷ []);
       },
     )
 
 -- the body is whole, and its request stands behind the others
 whole_between : (limit : ℕ) (b : Collected) (rest : List ℕ) (used : ℕ) (fed : List ℕ) (given : List Event) (s : Within limit b rest fed given)
     → (w : WholeBody limit s.head s.part rest used) → b.head.close ≡ false
-    → Between limit (drop used rest) fed (given ++ Asks (asked s.head (body_bytes w.body)) ∷ [])
+    → Between limit (drop used rest) fed (given ++ Requests (message_request s.head (body_bytes w.body)) ∷ [])
 whole_between limit b rest used fed given s w stays =
     let m : Message = record { head = s.head; body = w.body } in
     record {
       whole = s.whole ++ m ∷ [];
       each = each_push (IsKept limit) s.whole m s.each ((s.in_body.head, w.is_body), sym s.in_body.parts.close ∙ stays);
       text = s.text ∙ ap (λ xs. messages_text s.whole ++ (print_request s.head ++ xs)) w.text ∙ sym (ap (λ xs. xs ++ drop used rest) (push message_text s.whole m) ∙ simp append_assoc);
-      events = ap (λ es. es ++ Asks (asked s.head (body_bytes w.body)) ∷ []) s.events
-          ∙ append_assoc (messages_events s.whole) (told s.head) (Asks (asked s.head (body_bytes w.body)) ∷ []) ∙ sym (push message_events s.whole m);
+      events = ap (λ es. es ++ Requests (message_request s.head (body_bytes w.body)) ∷ []) s.events
+          ∙ append_assoc (messages_events s.whole) (told s.head) (Requests (message_request s.head (body_bytes w.body)) ∷ []) ∙ sym (push message_events s.whole m);
     }
 
 -- the body is whole, and a cut of the rest gives the events behind its request
@@ -96,5 +96,5 @@ pub whole_completion : (limit : ℕ) (b : Collected) (rest more : List ℕ) (use
     → WholeBody limit s.head s.part rest used → b.head.close ≡ false → more ≡ drop used rest → (c : Cut) × IsLinkCut limit more c
     → HasCompletion limit fed given
 whole_completion limit b rest more used fed given s w stays same cut =
-    let last : List Event = Asks (asked s.head (body_bytes w.body)) ∷ [] in
+    let last : List Event = Requests (message_request s.head (body_bytes w.body)) ∷ [] in
     fewer limit fed given last (between_completion limit (drop used rest) more fed (given ++ last) (whole_between limit b rest used fed given s w stays) same cut)

@@ -10,3 +10,4 @@ pub mod Outcomes
 pub mod Tails
 pub mod Walks
 pub mod Completions
+pub mod NoBytes

@@ -1,5 +1,5 @@
 -- Chunk lines and trailers at the front of the rest.
-use Rattle.std.proofs.Common.{◌≡◌, ◌≢◌, ◌⊎◌, ◌<◌, ◌≤◌, ◌+◌, ◌-◌, ℕ, List, [], ◌++◌, length, take, drop, refl, sym, ap, ◌∙◌, append_assoc, arith, inl, inr, length-append}
+use Rattle.std.proofs.Common.{◌≡◌, ◌⊎◌, ◌<◌, ◌≤◌, ◌+◌, ◌-◌, ℕ, List, [], ◌++◌, length, take, drop, refl, sym, ap, ◌∙◌, append_assoc, arith, inl, inr, length-append}
 use Rattle.std.proofs.lemmas.List.{take-append-drop, append-nil, length-take, length-map, take_all}
 use Rattle.std.proofs.lemmas.List.Elements.{recursion_from_All}
 use Rattle.std.proofs.Math.Seq.{drop-append_seam}
@@ -13,9 +13,7 @@ use Rattle.conn.specs.Reading.{IsAt, Reached, Ends, Fails}
 use Rattle.wire_http.specs.declared.refusal.WireRefusal.TheVariants.{TooLarge, BadChunk}
 use Rattle.conn.specs.declared.place.Phase.TheVariants as phase
 use Rattle.conn.specs.declared.place.Place.{Place}
-use Rattle.std.specs.Prelude.{Result, Err}
-use Rattle.httparse.specs.declared.Error.{Error}
-use Rattle.httparse.specs.declared.Error.TheVariants.{TooManyHeaders, HeaderName, HeaderValue, NewLine, Status, Token, Version}
+use Rattle.std.specs.Prelude.{Err}
 
 -- all bytes are the first ones and the others
 pub behind : (n : ℕ) (bs more : List ℕ) → bs ++ more ≡ take n bs ++ (drop n bs ++ more)
@@ -168,13 +166,3 @@ trailer_whole limit h (AtTrailer chunks last) rest n used count hs fields end q 
       within = in_rest.0;
       text = ap (λ xs. (front ++ line) ++ xs) text ∙ simp append_assoc;
     }
-
--- an error is about the count of fields or about the bytes
-pub by_error : {A B T : Type 0} (e : Error) (r : Result T Error) → r ≡ Err e → (e ≢ TooManyHeaders → A) → (r ≡ Err TooManyHeaders → B) → A ⊎ B
-by_error TooManyHeaders r is never exceeds = inr (exceeds is)
-by_error HeaderName r is never exceeds = inl (never (λ e. cc))
-by_error HeaderValue r is never exceeds = inl (never (λ e. cc))
-by_error NewLine r is never exceeds = inl (never (λ e. cc))
-by_error Status r is never exceeds = inl (never (λ e. cc))
-by_error Token r is never exceeds = inl (never (λ e. cc))
-by_error Version r is never exceeds = inl (never (λ e. cc))

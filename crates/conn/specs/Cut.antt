@@ -1,41 +1,37 @@
 -- The bytes of a connection: its whole messages, and what stands behind them.
-use Rattle.std.specs.Prelude.{◌≡◌, ◌≢◌, ℕ, ◌+◌, ◌<◌, ◌≤◌, ◌⊎◌, Bool, true, false, List, [], ◌∷◌, ◌++◌, length, take, Some, flat_map, if◌then◌else◌}
+use Rattle.std.specs.Prelude.{◌≡◌, ◌≢◌, ℕ, ◌+◌, ◌<◌, ◌≤◌, ◌⊎◌, true, false, List, [], ◌∷◌, ◌++◌, length, take, codes, Some, flat_map, if◌then◌else◌}
 use Rattle.std.specs.List.{AllByRecursion}
 use Rattle.httparse.specs.Grammar.{RequestHead, print_request, ChunkLine, IsChunkLine, print_chunk_line, chunk_size, HasNoChunkLine, MayBecomeChunkLine, NeverHasChunkLine, HasNoSection, MayBecomeSection, NeverHasSection}
 use Rattle.httparse.specs.Spans.{SectionExceeds}
-use Rattle.cta_model.specs.declared.asks.Who.{Who}
 use Rattle.wire_http.specs.Callers.{who_of}
 use Rattle.wire_http.specs.Head.{most_fields, pairs, target_of, refusal_of, framing, most_body, closes, expects, BeginsWith, IsOpenHead, IsBadHead}
 use Rattle.conn.specs.Message.{most_line, most_trailer, Chunk, chunks_text, content, IsChunk, IsLast, body_bytes, Message, message_text, messages_text, IsHead, IsMessage}
 use Rattle.wire_http.specs.declared.head.BodyLen.TheVariants.{Sized, Chunked}
+use Rattle.wire_http.specs.declared.request.Request.{Request}
 use Rattle.wire_http.specs.declared.refusal.WireRefusal.{WireRefusal}
 use Rattle.wire_http.specs.declared.refusal.WireRefusal.TheVariants.{BadHead, TooLarge, BadChunk}
-
--- what a request asks
-pub record Asked : Type 0 where
-  pub method : List ℕ
-  pub target : List ℕ
-  pub who : Who
-  pub body : List ℕ
-  pub close : Bool
 
 -- what a connection gives: a 100 Continue, a request, or the refusal
 pub data Event : Type 0 where
   Continues : Event
-  Asks : Asked → Event
+  Requests : Request → Event
   Refuses : WireRefusal → Event
 
--- what the request with that head and that body asks
-abbrev pub asked : RequestHead → List ℕ → Asked
-asked h body = record { method = h.method; target = target_of h; who = who_of (pairs h); body = body; close = closes h }
+-- the request with that head and that body
+abbrev pub message_request : RequestHead → List ℕ → Request
+message_request h body = record { method = h.method; target = target_of h; who = who_of (pairs h); body = body; close = closes h }
 
 -- the 100 Continue that a head asks for
 abbrev pub told : RequestHead → List Event
 told h = if expects h then Continues ∷ [] else []
 
+-- the text of a 100 Continue (RFC 9110, 15.2.1)
+abbrev pub continue_text : List ℕ
+continue_text = codes "HTTP/1.1 100 Continue\r\n\r\n"
+
 -- what a message gives
 abbrev pub message_events : Message → List Event
-message_events m = told m.head ++ Asks (asked m.head (body_bytes m.body)) ∷ []
+message_events m = told m.head ++ Requests (message_request m.head (body_bytes m.body)) ∷ []
 
 -- what several messages give
 abbrev pub messages_events : List Message → List Event

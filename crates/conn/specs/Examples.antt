@@ -3,7 +3,7 @@ use Rattle.std.specs.Prelude.{◌≡◌, ℕ, false, List, [], ◌∷◌, ◌++�
 use Rattle.httparse.specs.Grammar.{Field, crlf, RequestHead, ChunkLine}
 use Rattle.wire_http.specs.Head.{closes, refusal_of}
 use Rattle.conn.specs.Message.{Plain, InChunks, Chunk}
-use Rattle.conn.specs.Cut.{Cut, Event, Asks, Refuses, OpenHead, Breaks, cut_text, cut_events}
+use Rattle.conn.specs.Cut.{Cut, Event, Requests, Refuses, OpenHead, Breaks, cut_text, cut_events}
 use Rattle.wire_http.specs.declared.refusal.WireRefusal.TheVariants.{TwoLengths}
 
 -- a line, with its CR LF
@@ -58,7 +58,7 @@ pair = record {
 
 -- a request of nobody named that doesn't close
 abbrev pub asks : List ℕ → List ℕ → List ℕ → Event
-asks method target body = Asks (record { method = method; target = target; who = record { requester = []; group = [] }; body = body; close = false })
+asks method target body = Requests (record { method = method; target = target; who = record { requester = []; group = [] }; body = body; close = false })
 
 -- the text of that cut, and that it gives the two requests
 abbrev pub AsksPair : Type 0

@@ -3,17 +3,17 @@ use Rattle.std.specs.Prelude.{◌≡◌, ℕ, ◌+◌, ◌*◌, ◌<◌, ◌≤�
 use Rattle.std.specs.List.{AllByRecursion}
 use Rattle.httparse.specs.Grammar.{RequestHead, print_request}
 use Rattle.conn.specs.Message.{Message, messages_text}
-use Rattle.conn.specs.Cut.{Part, part_text, Asked, Event, Continues, Asks, Refuses, told, messages_events, IsKept, Cut, IsLinkCut, IsOpen, cut_events}
+use Rattle.conn.specs.Cut.{Part, part_text, Event, Continues, Requests, Refuses, told, messages_events, IsKept, Cut, IsLinkCut, IsOpen, cut_events}
 use Rattle.conn.specs.Reading.{IsInBody}
 use Rattle.conn.specs.declared.state.Collected.{Collected}
 use Rattle.conn.specs.declared.state.State.{State}
 use Rattle.conn.specs.declared.state.State.TheVariants as state
 use Rattle.conn.specs.declared.connection.Conn.{Conn}
-use Rattle.conn.specs.declared.request.Next.{Next}
-use Rattle.conn.specs.declared.request.Next.TheVariants as next
+use Rattle.conn.specs.declared.next.Next.{Next}
+use Rattle.conn.specs.declared.next.Next.TheVariants as next
 use Rattle.conn.specs.declared.state.Advance.{Advance}
 use Rattle.conn.specs.declared.state.Advance.TheVariants as advance
-use Rattle.conn.specs.declared.request.Request.{Request}
+use Rattle.wire_http.specs.declared.request.Request.{Request}
 use Rattle.conn.specs.declared.state.BodyStep.{BodyStep}
 use Rattle.conn.specs.declared.state.BodyStep.TheVariants as step
 
@@ -55,13 +55,9 @@ pub record Unfinished (limit : ℕ) (fed : List ℕ) (given : List Event) : Type
   pub is_open : IsOpen cut.tail
   pub events : given ≡ cut_events cut
 
--- what a request of the code asks
-abbrev pub request_view : Request → Asked
-request_view r = record { method = r.method; target = r.target; who = r.who; body = r.body; close = r.close }
-
--- what a body of the code asks, once it is whole
-abbrev pub whole_view : Collected → Asked
-whole_view b = record { method = b.head.method; target = b.head.target; who = b.head.who; body = b.maker; close = b.head.close }
+-- the request of a body, once it is whole
+abbrev pub collected_request : Collected → Request
+collected_request b = record { method = b.head.method; target = b.head.target; who = b.head.who; body = b.maker; close = b.head.close }
 
 -- it was closed from here, and stands for no bytes any more
 abbrev pub IsShut : Conn → Type 0
@@ -86,7 +82,7 @@ IsOver state.Shut = Unit {0}
 abbrev pub Gives : ℕ → Next → State → List ℕ → List ℕ → List Event → Type 0
 Gives limit next.Need s rest fed given = StandsAt limit s rest fed given × Unfinished limit fed given
 Gives limit next.Continue s rest fed given = StandsAt limit s rest fed (given ++ Continues ∷ [])
-Gives limit (next.Request r) s rest fed given = StandsAt limit s rest fed (given ++ Asks (request_view r) ∷ [])
+Gives limit (next.Request r) s rest fed given = StandsAt limit s rest fed (given ++ Requests r ∷ [])
 Gives limit (next.Refused r) s rest fed given = StandsAt limit s rest fed (given ++ Refuses r ∷ [])
 Gives limit next.Closed s rest fed given = StandsAt limit s rest fed given × IsOver s
 
@@ -105,15 +101,15 @@ abbrev pub Stands : Conn → List ℕ → List Event → Type 0
 Stands c fed given = StandsAt c.limit c.state (rest_of c) fed given
 
 -- what an answer says of the events; after want of memory they are as before
-abbrev pub Answers : {E : Type 0} → Conn → Result Next E → List ℕ → List Event → Type 0
-Answers c (Ok n) fed given = Gives c.limit n c.state (rest_of c) fed given
-Answers c (Err e) fed given = Stands c fed given
+abbrev pub GivesNext : {E : Type 0} → Conn → Result Next E → List ℕ → List Event → Type 0
+GivesNext c (Ok n) fed given = Gives c.limit n c.state (rest_of c) fed given
+GivesNext c (Err e) fed given = Stands c fed given
 
 -- the body was whole with so many bytes and is a request, or it is kept for want of memory
 abbrev pub IsFinished : ℕ → Collected → BodyStep → Type 0
 IsFinished used b (step.Moved n c) = ⊥
 IsFinished used b (step.Need c) = ⊥
-IsFinished used b (step.Whole n r) = (n ≡ used) × (request_view r ≡ whole_view b)
+IsFinished used b (step.Whole n r) = (n ≡ used) × (r ≡ collected_request b)
 IsFinished used b (step.Refused refusal) = ⊥
 IsFinished used b (step.NoMemory c) = c ≡ b
 
@@ -122,8 +118,8 @@ abbrev pub BodySteps : ℕ → List ℕ → BodyStep → List ℕ → List Event
 BodySteps limit rest (step.Moved used b) fed given = (used ≤ length rest) × (0 < used) × Within limit b (drop used rest) fed given
 BodySteps limit rest (step.Need b) fed given = Within limit b rest fed given × Unfinished limit fed given
 BodySteps limit rest (step.Whole used r) fed given =
-    (used ≤ length rest) × (r.close ≡ false → Between limit (drop used rest) fed (given ++ Asks (request_view r) ∷ []))
-    × (r.close ≡ true → Ended limit fed (given ++ Asks (request_view r) ∷ []))
+    (used ≤ length rest) × (r.close ≡ false → Between limit (drop used rest) fed (given ++ Requests r ∷ []))
+    × (r.close ≡ true → Ended limit fed (given ++ Requests r ∷ []))
 BodySteps limit rest (step.Refused refusal) fed given = Ended limit fed (given ++ Refuses refusal ∷ [])
 BodySteps limit rest (step.NoMemory b) fed given = Within limit b rest fed given
 
@@ -172,7 +168,7 @@ AdvanceLess rest s s' (advance.Gives used n) = UnlessLast n (left_at (drop used 
 abbrev pub next_events : Next → List Event
 next_events next.Need = []
 next_events next.Continue = Continues ∷ []
-next_events (next.Request r) = Asks (request_view r) ∷ []
+next_events (next.Request r) = Requests r ∷ []
 next_events (next.Refused r) = Refuses r ∷ []
 next_events next.Closed = []
 

@@ -3,17 +3,17 @@ ghost use Rattle.std.specs.Prelude.{◌≡◌, ℕ, List, Ok, IfOk};
 ghost use Rattle.conn.specs.Cut.{Event};
 ghost use Rattle.conn.specs.Stands.{StandsAt, Advances, Within, BodySteps, BodyStepWithin, AdvanceWithin, AdvanceLess, IsFinished};
 ghost use Rattle.conn.specs.declared.state.Advance.TheVariants as Advance;
-ghost use Rattle.conn.specs.declared.request.Next.TheVariants as Next;
+ghost use Rattle.conn.specs.declared.next.Next.TheVariants as Next;
 ghost use Rattle.conn.specs.declared.state.State.TheVariants as State;
 
+use crate::next::Next;
 use crate::place::{Step, go_on, start_of};
-use crate::request::{Next, Request};
 use crate::state::{Advance, BodyStep, Collected, State};
 use blob::BlobMaker;
 use cta_site::NoMemory;
 use std::alloc::Global;
 use std::mem;
-use wire_http::{HeadRead, longest_body, read_head};
+use wire_http::{HeadRead, Request, longest_body, read_head};
 
 // A head, where one is whole.
 fn advance_head(

@@ -4,7 +4,7 @@ ghost use Rattle.conn.specs.Cut.{Event};
 
 use crate::advance::advance;
 use crate::completion::body_completion;
-use crate::request::Next;
+use crate::next::Next;
 use crate::state::{Advance, State};
 use crate::walk::has_cut;
 use cta_site::NoMemory;
@@ -23,8 +23,8 @@ pub struct Conn {
 }
 
 impl Conn {
-    ghost use Rattle.conn.specs.Stands.{Stands, Answers, HasCompletion, HasRoom, IsOver, IsShut, UnlessLast, left, limit_of, rest_of};
-    ghost use Rattle.conn.specs.declared.request.Next.TheVariants as Next;
+    ghost use Rattle.conn.specs.Stands.{Stands, GivesNext, HasCompletion, HasRoom, IsOver, IsShut, UnlessLast, left, limit_of, rest_of};
+    ghost use Rattle.conn.specs.declared.next.Next.TheVariants as Next;
 
     /// A connection that was fed nothing. A file may have `file_limit` bytes. It takes no memory.
     pub fn new(alloc: Global, file_limit: u64) -> Conn
@@ -71,10 +71,8 @@ impl Conn {
         ensures limit { limit_of self.new ≡ limit_of self.old }
     {
         self.drop_read();
-        match self.buf.reserve(more) {
-            Ok(()) => Ok(()),
-            Err(_) => Err(NoMemory),
-        }
+        self.buf.reserve(more)?;
+        Ok(())
     }
 
     /// Takes the next piece, of any length. NoMemory leaves the connection as before; it does not come where `reserve` made
@@ -91,10 +89,8 @@ impl Conn {
             return Ok(());
         }
         self.drop_read();
-        match self.buf.extend_from_slice(piece) {
-            Ok(()) => Ok(()),
-            Err(_) => Err(NoMemory),
-        }
+        self.buf.extend_from_slice(piece)?;
+        Ok(())
     }
 
     /// What comes next. `Need` comes exactly where what is left of the bytes is unfinished and no 100 Continue is due. After
@@ -102,7 +98,7 @@ impl Conn {
     /// is looked at a fixed number of times; a head, a chunk line or a trailer that isn't whole is read again at the next call.
     pub fn next(&mut self, alloc: Global) -> Result<Next, NoMemory>
         ensures answers { (fed : List ℕ) (given : List Event) → Stands self.old fed given
-            → Answers self.new result fed given }
+            → GivesNext self.new result fed given }
         ensures shut { IsShut self.old → (result ≡ Ok Next.Closed) × IsShut self.new }
         ensures less { IfOk result (λ n. UnlessLast n (left self.new < left self.old)) }
         ensures limit { limit_of self.new ≡ limit_of self.old }

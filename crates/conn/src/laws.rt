@@ -1,5 +1,7 @@
 // What the definitions of a message and of a cut say.
+ghost use Rattle.std.specs.Prelude.{ℕ, []};
 ghost use Rattle.conn.specs.Examples.{RefusesBoth, AsksPair};
+ghost use Rattle.conn.specs.Stands.{Settled};
 ghost use Rattle.conn.specs.Unique.{CutsAreSteps, EndsStay, HasOneCut, HasOneMessage, HasOneOutcome, StepsMakeCuts};
 
 /// Two texts read by the definitions: a head with two lengths, which is refused, and a pair of requests of which the second
@@ -33,4 +35,9 @@ pub fn steps_follow()
 /// or a trailer.
 pub fn one_outcome()
     ensures { HasOneOutcome }
+{}
+
+/// A connection to which nothing came gives nothing: no bytes are an unfinished head.
+pub fn no_bytes()
+    ensures { (limit : ℕ) → Settled limit [] [] }
 {}

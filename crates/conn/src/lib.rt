@@ -5,19 +5,20 @@
 mod advance;
 mod completion;
 mod connection;
+mod interim;
 mod laws;
+mod next;
 mod pieces;
 mod place;
-mod request;
 mod state;
 mod walk;
 
 pub use connection::Conn;
-pub use laws::{one_cut, one_message, one_outcome, steps_follow, two_texts};
+pub use interim::continue_text;
+pub use laws::{no_bytes, one_cut, one_message, one_outcome, steps_follow, two_texts};
+pub use next::Next;
 pub use pieces::answers;
-pub use request::{Next, Request};
 pub use walk::has_cut;
-pub use wire_http::{Kind, Reply, WireRefusal, error_reply, refusal_reply, write_reply};
 
 #[cfg(test)]
 mod tests;

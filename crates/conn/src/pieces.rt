@@ -3,7 +3,7 @@ ghost use Rattle.std.specs.Prelude.{◌≡◌, List, ℕ, IfOk, OnOk, flat_map};
 ghost use Rattle.conn.specs.Stands.{Stands, Settled, given_by, limit_of};
 
 use crate::connection::Conn;
-use crate::request::Next;
+use crate::next::Next;
 use cta_site::NoMemory;
 use std::alloc::Global;
 
@@ -17,9 +17,7 @@ fn drain(alloc: Global, conn: &mut Conn, out: &mut Vec<Next>) -> Result<(), NoMe
         match conn.next(alloc) {
             Ok(Next::Need) => return Ok(()),
             Ok(Next::Closed) => return Ok(()),
-            Ok(next) => if out.push(next).is_err() {
-                return Err(NoMemory);
-            },
+            Ok(next) => out.push(next)?,
             Err(e) => return Err(e),
         }
     }

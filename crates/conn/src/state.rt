@@ -1,9 +1,9 @@
 // Where a connection is.
 
+use crate::next::Next;
 use crate::place::Place;
-use crate::request::{Next, Request};
 use blob::BlobMaker;
-use wire_http::{Head, WireRefusal};
+use wire_http::{Head, Request, WireRefusal};
 
 // A head, and what has come of its body.
 #[derive(Drop)]

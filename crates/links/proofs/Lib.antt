@@ -2,4 +2,4 @@ pub mod Elements
 pub mod Runs
 pub mod Standing
 pub mod RunLaws
-pub mod Apart
+pub mod Beginning

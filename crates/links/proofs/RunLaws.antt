@@ -8,23 +8,12 @@ use Rattle.std.proofs.lemmas.Grind.{flat_map-append}
 use Rattle.conn.specs.Cut.{Event}
 use Rattle.conn.specs.Stands.{Settled}
 use Rattle.conn.specs.Unique.{HasOneOutcome}
-use Rattle.links.specs.Run.{Feed, Turn, feed_of, on, bytes_on, events_on, Completes, IsRunBehind, join, told_by, all_told}
-use Rattle.links.specs.Replies.{text_for, kept_behind, frame, output_from}
-use Rattle.links.specs.Laws.{HasFreeOrder, IsEachAlone, MayDiffer, HasOneRun, HasOneOutput, HasFreePieces, StaysRun, TellsJoined, RepliesFollow}
-use Rattle.links.proofs.Runs.{on-append, on-here, on-other, on-on, run_first, run_joined}
+use Rattle.links.specs.Run.{Feed, Turn, feed_of, on, bytes_on, events_on, Completes, IsRunBehind}
+use Rattle.links.specs.Laws.{HasFreeOrder, IsEachAlone, MayDiffer, HasOneRun, HasFreePieces, RunsFollow}
+use Rattle.links.proofs.Runs.{on-append, on-here, on-other, on-on, run_first, run_later, run_both, run_joined}
 
 pub free_order : HasFreeOrder
 free_order fed a b xs ys apart link = grind (arith, nat_tests)
-
-pub stays_run : StaysRun
-stays_run limit first more h = run_first limit [] first more h
-
-pub replies_follow : RepliesFollow
-replies_follow a kept [] more = (refl, refl)
-replies_follow a kept (t ∷ ts) more =
-    let h = replies_follow a (kept_behind a kept t.moment t.event) ts more in
-    let here = frame (record { link = t.link; text = text_for a kept t.moment t.event }) in
-    (ap (λ rs. here ++ rs) h.0 ∙ sym (append_assoc here _ _), h.1)
 
 -- what a turn of the link completes is told by the turns of that link
 completes_alone : (limit link : ℕ) (before : List Turn) (t : Turn) → t.link ≡ link → Completes limit before t → Completes limit (on link before) t
@@ -117,20 +106,11 @@ one_behind outcome limit before (t ∷ xs) (u ∷ ys) e h k =
 pub one_run : HasOneOutcome → HasOneRun
 one_run outcome limit feeds a b h k = one_behind outcome limit [] a b (h.0 ∙ sym k.0) h.1 k.1
 
-pub one_output : HasOneOutcome → HasOneOutput
-one_output outcome limit feeds xs ys h k =
-    elim (one_run outcome limit feeds xs ys h k) [
-      | inl e ↦ inl (λ a kept. ap (λ zs. output_from a kept (all_told zs)) e)
-      | inr differs ↦ inr differs
-    ]
-
-pub told_joined : TellsJoined
-told_joined a b e f = rw (e, f) (map-append _ a.events b.events)
-
 pub free_pieces : HasFreePieces
-free_pieces limit front a b back e f h =
-    let pieces : told_by (join a b) ++ all_told back ≡ told_by a ++ (told_by b ++ all_told back) =
-    ap (λ zs. zs ++ all_told back) (told_joined a b e f) ∙ append_assoc (told_by a) (told_by b) (all_told back) in (
-      run_joined limit front a b back e h,
-      flat_map-append told_by front (join a b ∷ back) ∙ ap (λ zs. all_told front ++ zs) pieces ∙ sym (flat_map-append told_by front (a ∷ b ∷ back)),
-    )
+free_pieces limit front a b back e h = run_joined limit front a b back e h
+
+pub runs_follow : RunsFollow
+runs_follow limit before first more = (
+  λ h. (run_first limit before first more h, run_later limit before first more h),
+  λ h. run_both limit before first more h.0 h.1,
+)

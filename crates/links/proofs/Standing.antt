@@ -5,12 +5,12 @@ use Rattle.std.proofs.lemmas.Bool.{cases_eq}
 use Rattle.std.proofs.lemmas.Grind.{flat_map-append}
 use Rattle.std.proofs.lemmas.Option.{same_Some}
 use Rattle.conn.specs.Cut.{Event}
-use Rattle.conn.specs.Stands.{StandsAt, Ended, Unfinished, Settled, IsOver, limit_of, rest_of, next_events, UnlessLast, HasCompletion, HasRoom, left, given_by, Answers as ConnAnswers}
+use Rattle.conn.specs.Stands.{StandsAt, Ended, Unfinished, Settled, IsOver, limit_of, rest_of, next_events, UnlessLast, HasCompletion, HasRoom, left, given_by, GivesNext}
 use Rattle.conn.specs.declared.connection.Conn.{Conn}
 use Rattle.conn.specs.declared.state.State.{State}
 use Rattle.conn.specs.declared.state.State.TheVariants as state
-use Rattle.conn.specs.declared.request.Next.{Next}
-use Rattle.conn.specs.declared.request.Next.TheVariants as next
+use Rattle.conn.specs.declared.next.Next.{Next}
+use Rattle.conn.specs.declared.next.Next.TheVariants as next
 use Rattle.links.specs.Standing.{behind, ConnStands, EachStands, Says, GivesOn, IsRoomy, GoesOn, GoesOnJoined, left_of}
 use Rattle.links.specs.Run.{Turn, bytes_on, events_on, IsRun, join}
 use Rattle.links.proofs.Runs.{bytes_last, events_last, run_both, run_joined}
@@ -59,7 +59,7 @@ over_ended limit state.Shut rest fed given h over = absurd h
 
 -- what a connection answers is the answer of its link
 pub next_stands : (conn : Conn) (limit : ℕ) (n : Next) (fed : List ℕ) (given : List Event) → limit_of conn ≡ limit
-    → ConnAnswers {E = Unit {0}} conn (Ok n) fed given → ConnStands limit conn fed (given ++ next_events n) × Says n limit fed given
+    → GivesNext {E = Unit {0}} conn (Ok n) fed given → ConnStands limit conn fed (given ++ next_events n) × Says n limit fed given
 next_stands conn limit next.Need fed given e h = (record { limit_is = e; stands = rw append-nil h.0 }, rw (← e) h.1)
 next_stands conn limit next.Continue fed given e h = (record { limit_is = e; stands = h }, tt)
 next_stands conn limit (next.Request r) fed given e h = (record { limit_is = e; stands = h }, tt)
@@ -69,7 +69,7 @@ next_stands conn limit next.Closed fed given e h =
 
 -- the answer of one of them is that of its link
 pub answers_after : {E : Type 0} (conns : List Conn) (at : ℕ) (new : Conn) (limit : ℕ) (r : Result Next E) (fed : ℕ → List ℕ) (given : ℕ → List Event) → at < length conns
-    → EachStands conns limit fed given → limit_of new ≡ limit → ConnAnswers new r (fed at) (given at) → GivesOn (slice_set conns at new) limit at r fed given
+    → EachStands conns limit fed given → limit_of new ≡ limit → GivesNext new r (fed at) (given at) → GivesOn (slice_set conns at new) limit at r fed given
 answers_after conns at new limit (Ok n) fed given within stand e h =
     let now = next_stands new limit n (fed at) (given at) e h in
     (given_after conns at new limit fed given (next_events n) within stand now.0, now.1)

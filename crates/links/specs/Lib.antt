@@ -1,4 +1,3 @@
 pub mod Standing
 pub mod Run
-pub mod Replies
 pub mod Laws

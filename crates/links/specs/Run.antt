@@ -1,4 +1,4 @@
--- The events of a script: what the bytes of its records complete on their links.
+-- The run of the links: what the bytes of a script's records complete on them.
 use Rattle.std.specs.Prelude.{◌≡◌, ℕ, List, [], ◌∷◌, ◌++◌, ◌==◌, map}
 use Rattle.std.specs.List.{filter, flat_map}
 use Rattle.conn.specs.Cut.{Event}
@@ -10,7 +10,7 @@ pub record Feed : Type 0 where
   pub moment : ℕ
   pub bytes : List ℕ
 
--- a record, and the events that its bytes complete on its link
+-- a record of bytes, and the events that they complete on its link
 pub record Turn : Type 0 where
   pub link : ℕ
   pub moment : ℕ
@@ -46,24 +46,10 @@ IsRunBehind limit before (t ∷ ts) = Completes limit before t × IsRunBehind li
 abbrev pub IsRun : ℕ → List Turn → Type 0
 IsRun limit turns = IsRunBehind limit [] turns
 
--- a run of these records
+-- a run of these feeds
 abbrev pub IsRunOf : ℕ → List Feed → List Turn → Type 0
 IsRunOf limit feeds turns = (map feed_of turns ≡ feeds) × IsRun limit turns
 
 -- two turns of one link and moment as one
 abbrev pub join : Turn → Turn → Turn
 join a b = record { link = a.link; moment = a.moment; bytes = a.bytes ++ b.bytes; events = a.events ++ b.events }
-
--- an event on a link, at a moment
-pub record Told : Type 0 where
-  pub link : ℕ
-  pub moment : ℕ
-  pub event : Event
-
--- the events of a turn, with its link and moment
-abbrev pub told_by : Turn → List Told
-told_by t = map (λ e. record { link = t.link; moment = t.moment; event = e }) t.events
-
--- the events of turns, in order
-abbrev pub all_told : List Turn → List Told
-all_told turns = flat_map told_by turns

@@ -3,8 +3,8 @@ use Rattle.std.specs.Prelude.{◌≡◌, ℕ, List, [], ◌∷◌, ◌++◌, Opt
 use Rattle.conn.specs.Cut.{Event}
 use Rattle.conn.specs.Stands.{Stands, Ended, Unfinished, HasRoom, limit_of, left, next_events, given_by}
 use Rattle.conn.specs.declared.connection.Conn.{Conn}
-use Rattle.conn.specs.declared.request.Next.{Next}
-use Rattle.conn.specs.declared.request.Next.TheVariants as next
+use Rattle.conn.specs.declared.next.Next.{Next}
+use Rattle.conn.specs.declared.next.Next.TheVariants as next
 use Rattle.links.specs.Run.{Turn, bytes_on, events_on, IsRun, join}
 use Rattle.links.specs.declared.links.Links.{Links}
 

@@ -28,9 +28,7 @@ impl Links {
     {
         let mut conns = Vec::new(alloc);
         for _link in 0..LINKS {
-            if conns.push(Conn::new(alloc, file_limit)).is_err() {
-                return Err(NoMemory);
-            }
+            conns.push(Conn::new(alloc, file_limit))?;
         }
         Ok(Links { conns })
     }
@@ -91,9 +89,7 @@ impl Links {
     {
         'answers: loop {
             // So no event is lost where memory is wanted.
-            if out.reserve(1).is_err() {
-                return Err(NoMemory);
-            }
+            out.reserve(1)?;
             match self.next(alloc, link) {
                 Ok(Next::Need) => return Ok(()),
                 Ok(Next::Closed) => return Ok(()),

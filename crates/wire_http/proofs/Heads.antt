@@ -1,6 +1,6 @@
 -- A head in the first bytes is a head at the front of all of them.
-use Rattle.std.proofs.Common.{◌≡◌, ◌≢◌, ◌⊎◌, ℕ, Bool, true, false, not, cond, refl, List, ◌++◌, length, take, drop, sym, ap, ap₂, ◌∙◌, append_assoc, arith, inl, inr}
-use Rattle.std.specs.Prelude.{Option, Some, None, Result, Err}
+use Rattle.std.proofs.Common.{◌≡◌, ◌⊎◌, ℕ, Bool, true, false, not, cond, refl, List, ◌++◌, length, take, drop, sym, ap, ap₂, ◌∙◌, append_assoc, arith, inl, inr}
+use Rattle.std.specs.Prelude.{Option, Some, None}
 use Rattle.std.specs.List.{list_all}
 use Rattle.std.proofs.lemmas.List.{take-append-drop, length-take, length-map}
 use Rattle.std.proofs.lemmas.Bool.{or_parts}
@@ -8,8 +8,6 @@ use Rattle.httparse.specs.Grammar.{RequestHead, IsRequestHead, print_request, Ne
 use Rattle.httparse.specs.Spans.{RequestExceeds, IsRequestAt, IsRequestWithin, header_bytes, name_and_value}
 use Rattle.httparse.specs.declared.spans.HeaderSpan.{HeaderSpan}
 use Rattle.httparse.specs.declared.spans.RequestSpans.{RequestSpans}
-use Rattle.httparse.specs.declared.Error.{Error}
-use Rattle.httparse.specs.declared.Error.TheVariants.{TooManyHeaders, HeaderName, HeaderValue, NewLine, Status, Token, Version}
 use Rattle.wire_http.specs.Fields.{Pair, is_length, lengths}
 use Rattle.wire_http.specs.Rules.{first_broken, longest_body, body_len, is_expecting, is_closing, breaks_target, breaks_host, breaks_two_lengths, breaks_coding, breaks_length}
 use Rattle.wire_http.specs.declared.refusal.WireRefusal.TheVariants.{BadTarget, BadHost, TwoLengths, Coding, BadLength}
@@ -106,13 +104,3 @@ pub reading_of : (limit : ℕ) (bs rest : List ℕ) (h : RequestHead) (r : HeadR
 reading_of limit bs rest h read.Need b k = absurd k
 reading_of limit bs rest h (read.Head head) b k = record { tree = h; rest = rest; begins = b; passes = k.0; parts = k.1 }
 reading_of limit bs rest h (read.Refused refusal) b k = inr (record { tree = h; rest = rest; begins = b; breaks = k })
-
--- an error is about the count of fields or about the bytes
-pub by_error : {A B T : Type 0} (e : Error) (r : Result T Error) → r ≡ Err e → (e ≢ TooManyHeaders → A) → (r ≡ Err TooManyHeaders → B) → A ⊎ B
-by_error TooManyHeaders r is never exceeds = inr (exceeds is)
-by_error HeaderName r is never exceeds = inl (never (λ e. cc))
-by_error HeaderValue r is never exceeds = inl (never (λ e. cc))
-by_error NewLine r is never exceeds = inl (never (λ e. cc))
-by_error Status r is never exceeds = inl (never (λ e. cc))
-by_error Token r is never exceeds = inl (never (λ e. cc))
-by_error Version r is never exceeds = inl (never (λ e. cc))

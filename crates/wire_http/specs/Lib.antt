@@ -4,3 +4,4 @@ pub mod Callers
 pub mod Rules
 pub mod Head
 pub mod Reply
+pub mod Errors

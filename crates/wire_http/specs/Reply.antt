@@ -23,11 +23,35 @@ status_line code = codes "HTTP/1.1 " ++ decimal code ++ codes " " ++ phrase code
 abbrev pub field_line : List ℕ → List ℕ → List ℕ
 field_line name value = name ++ codes ": " ++ value ++ crlf_bytes
 
+-- what the body of a reply is: nothing, a JSON text, or the bytes of a file
+pub data ReplyBody : Type 0 where
+  NoBody : ReplyBody
+  JsonBody : (text : List ℕ) → ReplyBody
+  FileBody : (bytes : List ℕ) → ReplyBody
+
+-- a reply with its body's bytes themselves
+pub record ReplyView : Type 0 where
+  pub code : ℕ
+  pub body : ReplyBody
+  pub location : Option (List ℕ)
+  pub allow : Option (List ℕ)
+  pub close : Bool
+
+-- the body that the code has
+abbrev pub body_of : Kind → ReplyBody
+body_of Empty = NoBody
+body_of (Json text) = JsonBody text
+body_of (Bytes blob) = FileBody (arc_value blob)
+
+-- the reply that the code has
+abbrev pub reply_view : Reply → ReplyView
+reply_view r = record { code = r.code; body = body_of r.kind; location = r.location; allow = r.allow; close = r.close }
+
 -- the type of the body, where it has one
-abbrev pub type_lines : Kind → List ℕ
-type_lines Empty = []
-type_lines (Json text) = field_line (codes "Content-Type") (codes "application/json")
-type_lines (Bytes blob) = field_line (codes "Content-Type") (codes "application/octet-stream")
+abbrev pub type_lines : ReplyBody → List ℕ
+type_lines NoBody = []
+type_lines (JsonBody text) = field_line (codes "Content-Type") (codes "application/json")
+type_lines (FileBody bytes) = field_line (codes "Content-Type") (codes "application/octet-stream")
 
 -- the length of the body
 abbrev pub length_line : ℕ → List ℕ
@@ -43,21 +67,25 @@ abbrev pub close_lines : Bool → List ℕ
 close_lines true = field_line (codes "Connection") (codes "close")
 close_lines false = []
 
--- the body
-abbrev pub content : Kind → List ℕ
-content Empty = []
-content (Json text) = text
-content (Bytes blob) = arc_value blob
+-- the bytes of the body
+abbrev pub reply_content : ReplyBody → List ℕ
+reply_content NoBody = []
+reply_content (JsonBody text) = text
+reply_content (FileBody bytes) = bytes
 
 -- the fields, in their order
-abbrev pub fields_text : Reply → List ℕ
+abbrev pub fields_text : ReplyView → List ℕ
 fields_text r =
-    type_lines r.kind ++ length_line (length (content r.kind)) ++ value_lines (codes "Location") r.location
+    type_lines r.body ++ length_line (length (reply_content r.body)) ++ value_lines (codes "Location") r.location
     ++ value_lines (codes "Allow") r.allow ++ close_lines r.close
 
 -- the first line, the fields, an empty line, and the body
+abbrev pub view_text : ReplyView → List ℕ
+view_text r = status_line r.code ++ fields_text r ++ crlf_bytes ++ reply_content r.body
+
+-- the text of the reply that the code has
 abbrev pub reply_text : Reply → List ℕ
-reply_text r = status_line r.code ++ fields_text r ++ crlf_bytes ++ content r.kind
+reply_text r = view_text (reply_view r)
 
 -- an error is the JSON object with the text as its one member `error`
 abbrev pub error_tokens : List ℕ → List Token

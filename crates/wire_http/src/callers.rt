@@ -24,10 +24,8 @@ pub(crate) fn front(bytes: &[u8], most: usize) -> &[u8]
 fn text_of(alloc: Global, text: &str) -> Result<Text, NoMemory>
     ensures { IfOk result (λ t. t ≡ text.now) }
 {
-    match String::from_str(alloc, text) {
-        Ok(string) => Ok(Text::of(string)),
-        Err(_) => Err(NoMemory),
-    }
+    let string = String::from_str(alloc, text)?;
+    Ok(Text::of(string))
 }
 
 // The text of these bytes, empty where they are no UTF-8.

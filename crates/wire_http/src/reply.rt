@@ -51,12 +51,10 @@ fn error_body(alloc: Global, text: &str) -> Result<Text, NoMemory>
     ensures { IfOk result (λ body. body ≡ error_body text.now) }
 {
     let mut out = Writer::new(Vec::new(alloc));
-    match write_error(&mut out, text) {
-        Ok(()) => match String::from_utf8(out.into_inner()) {
-            Ok(body) => Ok(Text::of(body)),
-            Err(_) => unreachable!(),
-        },
-        Err(_) => Err(NoMemory),
+    write_error(&mut out, text)?;
+    match String::from_utf8(out.into_inner()) {
+        Ok(body) => Ok(Text::of(body)),
+        Err(_) => unreachable!(),
     }
 }
 

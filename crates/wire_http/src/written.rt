@@ -1,6 +1,6 @@
 // The text of a reply.
 ghost use Rattle.std.specs.Prelude.{◌≡◌, ◌++◌, length, IfOk, OnOk};
-ghost use Rattle.wire_http.specs.Reply.{field_line, status_line, type_lines, length_line, value_lines, close_lines, fields_text, content, reply_text};
+ghost use Rattle.wire_http.specs.Reply.{body_of, reply_view, field_line, status_line, type_lines, length_line, value_lines, close_lines, fields_text, reply_content, reply_text};
 
 use crate::phrases::phrase;
 use crate::reply::{Kind, Reply};
@@ -9,37 +9,30 @@ use cta_site::{NoMemory, Text};
 use itoa::Buffer;
 use std::alloc::Global;
 
-fn put(out: &mut Vec<u8>, bytes: &[u8]) -> Result<(), NoMemory>
-    ensures { OnOk result (out.new.items ≡ out.old.items ++ bytes.now) }
-{
-    match out.extend_from_slice(bytes) {
-        Ok(()) => Ok(()),
-        Err(_) => Err(NoMemory),
-    }
-}
-
 fn put_status(out: &mut Vec<u8>, code: u16) -> Result<(), NoMemory>
     ensures { OnOk result (out.new.items ≡ out.old.items ++ status_line code) }
 {
     let mut digits = Buffer::new();
-    put(out, b"HTTP/1.1 ")?;
-    put(out, digits.format(code).as_bytes())?;
-    put(out, b" ")?;
-    put(out, phrase(code).as_bytes())?;
-    put(out, b"\r\n")
+    out.extend_from_slice(b"HTTP/1.1 ")?;
+    out.extend_from_slice(digits.format(code).as_bytes())?;
+    out.extend_from_slice(b" ")?;
+    out.extend_from_slice(phrase(code).as_bytes())?;
+    out.extend_from_slice(b"\r\n")?;
+    Ok(())
 }
 
 fn put_field(out: &mut Vec<u8>, name: &[u8], value: &[u8]) -> Result<(), NoMemory>
     ensures { OnOk result (out.new.items ≡ out.old.items ++ field_line name.now value.now) }
 {
-    put(out, name)?;
-    put(out, b": ")?;
-    put(out, value)?;
-    put(out, b"\r\n")
+    out.extend_from_slice(name)?;
+    out.extend_from_slice(b": ")?;
+    out.extend_from_slice(value)?;
+    out.extend_from_slice(b"\r\n")?;
+    Ok(())
 }
 
 fn put_type(out: &mut Vec<u8>, kind: &Kind) -> Result<(), NoMemory>
-    ensures { OnOk result (out.new.items ≡ out.old.items ++ type_lines kind.now) }
+    ensures { OnOk result (out.new.items ≡ out.old.items ++ type_lines (body_of kind.now)) }
 {
     match kind {
         Kind::Empty => Ok(()),
@@ -50,7 +43,7 @@ fn put_type(out: &mut Vec<u8>, kind: &Kind) -> Result<(), NoMemory>
 
 // How many bytes the body has.
 fn content_len(kind: &Kind) -> u64
-    ensures { result ≡ length (content kind.now) }
+    ensures { result ≡ length (reply_content (body_of kind.now)) }
 {
     match kind {
         Kind::Empty => 0,
@@ -92,27 +85,26 @@ fn put_blob(out: &mut Vec<u8>, blob: &Blob) -> Result<(), NoMemory>
     let Some(end) = at.checked_add(blob.sum().len as usize) else {
         return Err(NoMemory);
     };
-    match out.resize(end, 0) {
-        Ok(()) => {
-            blob.piece(0, &mut out[at..]);
-            Ok(())
-        }
-        Err(_) => Err(NoMemory),
-    }
+    out.resize(end, 0)?;
+    blob.piece(0, &mut out[at..]);
+    Ok(())
 }
 
 fn put_content(out: &mut Vec<u8>, kind: &Kind) -> Result<(), NoMemory>
-    ensures { OnOk result (out.new.items ≡ out.old.items ++ content kind.now) }
+    ensures { OnOk result (out.new.items ≡ out.old.items ++ reply_content (body_of kind.now)) }
 {
     match kind {
         Kind::Empty => Ok(()),
-        Kind::Json(text) => put(out, text.as_bytes()),
+        Kind::Json(text) => {
+            out.extend_from_slice(text.as_bytes())?;
+            Ok(())
+        }
         Kind::Bytes(blob) => put_blob(out, blob),
     }
 }
 
 fn put_fields(out: &mut Vec<u8>, reply: &Reply) -> Result<(), NoMemory>
-    ensures { OnOk result (out.new.items ≡ out.old.items ++ fields_text reply.now) }
+    ensures { OnOk result (out.new.items ≡ out.old.items ++ fields_text (reply_view reply.now)) }
 {
     put_type(out, &reply.kind)?;
     put_length(out, content_len(&reply.kind))?;
@@ -130,7 +122,7 @@ pub fn write_reply(alloc: Global, reply: &Reply) -> Result<Vec<u8>, NoMemory>
     let mut out = Vec::new(alloc);
     put_status(&mut out, reply.code)?;
     put_fields(&mut out, reply)?;
-    put(&mut out, b"\r\n")?;
+    out.extend_from_slice(b"\r\n")?;
     put_content(&mut out, &reply.kind)?;
     Ok(out)
 }

@@ -1,7 +1,8 @@
 use Rattle.std.proofs.Common.{refl, arith, inl, inr}
 use Rattle.std.specs.Prelude.{Err}
 use Rattle.std.proofs.lemmas.List.{length-take}
-use Rattle.conn.proofs.Lines.{by_error, never_section, exceeds_section, trailer_bad, trailer_need, trailer_whole}
+use Rattle.wire_http.specs.Errors.{by_error}
+use Rattle.conn.proofs.Lines.{never_section, exceeds_section, trailer_bad, trailer_need, trailer_whole}
 use Rattle.conn.proofs.place.step_trailer.Goals as goal
 
 pub returns-in-Err-clause-steps : goal.returns-in-Err-clause-steps

@@ -1,7 +1,8 @@
 use Rattle.std.proofs.Common.{◌≡◌, ◌<◌, length, refl, ap, ◌∙◌, arith, inl, inr}
 use Rattle.std.specs.Prelude.{Err}
 use Rattle.std.proofs.lemmas.List.{length-take, take_all}
-use Rattle.wire_http.proofs.Heads.{never_of_front, exceeds_of_front, begins_of_front, judged_of, by_error}
+use Rattle.wire_http.specs.Errors.{by_error}
+use Rattle.wire_http.proofs.Heads.{never_of_front, exceeds_of_front, begins_of_front, judged_of}
 use Rattle.wire_http.proofs.head.judge_head.Goals as goal
 
 pub judge_whole-requires-clause-small : goal.judge_whole-requires-clause-small

@@ -2,7 +2,8 @@ use Rattle.std.proofs.Common.{◌≡◌, ◌<◌, length, refl, ap, ◌∙◌, a
 use Rattle.std.specs.Prelude.{Err}
 use Rattle.std.proofs.lemmas.List.{length-take, take_all}
 use Rattle.std.proofs.lemmas.Result.{IfOk-weaker}
-use Rattle.wire_http.proofs.Heads.{never_of_front, exceeds_of_front, begins_of_front, reading_of, by_error}
+use Rattle.wire_http.specs.Errors.{by_error}
+use Rattle.wire_http.proofs.Heads.{never_of_front, exceeds_of_front, begins_of_front, reading_of}
 use Rattle.wire_http.proofs.head.read_head.Goals as goal
 
 pub whole_head-requires-clause-small : goal.whole_head-requires-clause-small

@@ -1,16 +1,17 @@
 use Rattle.std.proofs.Common.{◌≡◌, ◌∷◌, ◌++◌, [], ◌∙◌, true, arith}
 use Rattle.std.specs.Result.{is_ok}
 use Rattle.std.proofs.lemmas.Grind.{common_steps}
+use Rattle.std.proofs.lemmas.Result.{err_from_is_err_and}
 use Rattle.conn.specs.Stands.{given_by}
 use Rattle.links.specs.Standing.{behind}
 use Rattle.links.proofs.Standing.{same_given, none_given, given_more, need_settled, closed_settled}
 use Rattle.links.proofs.links.Links.next_all.Goals as goal
 
-pub returns-then-is_err-clause-given : goal.returns-then-is_err-clause-given
-returns-then-is_err-clause-given c = λ limit fed given stand. (
+pub returns-in_err-reserve-clause-given : goal.returns-in_err-reserve-clause-given
+returns-in_err-reserve-clause-given c = λ limit fed given stand. (
   same_given c.answers.self.conns.items limit fed given c.args.link c.answers.out.items c.reserve.new.self.items c.reserve.ensures.items
       (c.answers.invariant.stands limit fed given stand),
-  tt,
+  (let p = err_from_is_err_and c.from_residual.result c.from_residual.ensures.1 in rw p.1 tt),
 )
 
 pub returns-in-Ok-Need-clause-given : goal.returns-in-Ok-Need-clause-given

@@ -1,9 +1,8 @@
-// What a connection gives.
+// A whole request.
 
 use blob::Blob;
 use cta_model::Who;
 use cta_site::Text;
-use wire_http::WireRefusal;
 
 /// A whole request (RFC 9112, 2.1).
 #[derive(Drop)]
@@ -18,18 +17,4 @@ pub struct Request {
     pub body: Blob,
     /// Whether the connection closes after the reply (RFC 9112, 9.6).
     pub close: bool,
-}
-
-/// What comes next on a connection.
-#[derive(Drop)]
-pub enum Next {
-    /// More bytes are needed: what is there is unfinished.
-    Need,
-    /// A 100 Continue is due (RFC 9110, 15.2.1): once, after a head that waits for one.
-    Continue,
-    Request(Request),
-    /// The bytes break a rule. Nothing else comes.
-    Refused(WireRefusal),
-    /// Nothing comes any more: a refusal or a closing request was given, or `close` was called.
-    Closed,
 }
