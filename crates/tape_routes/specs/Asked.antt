@@ -14,7 +14,7 @@ use Rattle.wire_http.specs.declared.reply.Reply.{Reply}
 use Rattle.wire_http.specs.Reply.{error_reply}
 use Rattle.tape_json.specs.declared.body.BodyError.{BodyError}
 use Rattle.tape_json.specs.Bodies.{stage_of, paths_of, state_of, vid_of}
-use Rattle.conn.specs.declared.request.Request.{Request}
+use Rattle.wire_http.specs.declared.request.Request.{Request}
 use Rattle.tape_routes.specs.declared.routes.Endpoint.{Endpoint}
 use Rattle.tape_routes.specs.declared.routes.Meaning.{Meaning}
 use Rattle.tape_routes.specs.declared.routes.Meaning.TheVariants as means

@@ -8,7 +8,7 @@ use Rattle.wire_http.specs.declared.reply.Reply.{Reply}
 use Rattle.wire_http.specs.Reply.{error_body}
 use Rattle.tape_json.specs.declared.body.BodyError.{BodyError}
 use Rattle.tape_json.specs.declared.body.BodyError.TheVariants.{BadBody, BadLifetime, EmptyList, NoMemory}
-use Rattle.conn.specs.declared.request.Request.{Request}
+use Rattle.wire_http.specs.declared.request.Request.{Request}
 
 -- a reply to HEAD has no body, any other refusal is a JSON text (RFC 9110, 9.3.2)
 abbrev pub refused_reply : Request → ℕ → List ℕ → Option (List ℕ) → Reply

@@ -4,3 +4,4 @@ pub mod Parameters
 pub mod Fixed
 pub mod Asked
 pub mod Replies
+pub mod Answering

@@ -66,7 +66,6 @@ status_of refusal.NotBuilt = 501
 
 -- the text of each refusal; Unknown has none, since no caller gets it
 abbrev pub text_of : Refusal → List ℕ
-text_of refusal.NotBuilt = codes "not built"
 text_of r = unwrap_or (refusal_text r) []
 
 -- the JSON text of an answer that has one

@@ -12,11 +12,11 @@ use crate::bodies::{paths_in, stage_in, state_in, vid_in};
 use crate::parameters::{path_in, tape_number};
 use crate::refusals::{bad_body, bad_request};
 use crate::routed::Routed;
-use conn::Request;
 use cta_model::{Ask, Look, Who};
 use cta_site::{NoMemory, Text, ValidSite};
 use std::alloc::Global;
 use std::sync::Arc;
+use wire_http::Request;
 
 // Files are wanted on disk.
 pub(crate) fn stage(alloc: Global, request: Request) -> Result<Routed, NoMemory>
@@ -135,10 +135,8 @@ fn put_of(alloc: Global, request: Request, path: Text) -> Result<Routed, NoMemor
 {
     let sum = request.body.sum();
     let who = request.who;
-    match Arc::new(alloc, request.body) {
-        Ok(blob) => Ok(Routed::Ask(Ask::Put { who, path, sum }, Some(blob))),
-        Err(_) => Err(NoMemory),
-    }
+    let blob = Arc::new(alloc, request.body)?;
+    Ok(Routed::Ask(Ask::Put { who, path, sum }, Some(blob)))
 }
 
 // A file is put.

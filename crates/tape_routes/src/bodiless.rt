@@ -10,10 +10,10 @@ use crate::ids::request_number;
 use crate::parameters::{drive_number, tape_number};
 use crate::routed::Routed;
 use crate::well_known::well_known_reply;
-use conn::Request;
 use cta_model::{Ask, Look};
 use cta_site::{NoMemory, ValidSite};
 use std::alloc::Global;
+use wire_http::Request;
 
 // The service.
 pub(crate) fn service(alloc: Global, site: &ValidSite, close: bool) -> Result<Routed, NoMemory>

@@ -48,8 +48,6 @@ pub(crate) fn push_id(out: &mut String, id: u32) -> Result<(), NoMemory>
 {
     let id = Uuid::from_u128(FIRST_ID + id as u128).hyphenated();
     let mut buffer = Uuid::encode_buffer();
-    match out.push_str(id.encode_lower(&mut buffer)) {
-        Ok(()) => Ok(()),
-        Err(_) => Err(NoMemory),
-    }
+    out.push_str(id.encode_lower(&mut buffer))?;
+    Ok(())
 }

@@ -6,6 +6,7 @@ mod asks;
 mod bodies;
 mod bodiless;
 mod ids;
+mod laws;
 mod parameters;
 mod refusals;
 mod replies;
@@ -16,6 +17,7 @@ mod routing;
 mod statuses;
 mod well_known;
 
+pub use laws::replies_carry_their_content;
 pub use replies::reply_of;
 pub use routed::Routed;
 pub use router::Routes;

@@ -13,10 +13,8 @@ pub(crate) fn decoded(alloc: Global, parameter: &[u8]) -> Result<Vec<u8>, NoMemo
     ensures { IfOk result (λ bytes. bytes.items ≡ percent_decode parameter.now) }
 {
     let mut bytes = Vec::new(alloc);
-    match percent_decode(parameter).append_to(&mut bytes) {
-        Ok(()) => Ok(bytes),
-        Err(_) => Err(NoMemory),
-    }
+    percent_decode(parameter).append_to(&mut bytes)?;
+    Ok(bytes)
 }
 
 // The number of the drive of this name, the greatest of 32 bits where no drive has it.
@@ -37,11 +35,9 @@ pub(crate) fn tape_number(site: &ValidSite, vid: &[u8]) -> u32
 pub(crate) fn path_in(alloc: Global, bytes: &[u8]) -> Result<Option<Text>, NoMemory>
     ensures { IfOk result (λ path. path ≡ text_in bytes.now) }
 {
-    match str::from_utf8(bytes) {
-        Ok(text) => match String::from_str(alloc, text) {
-            Ok(path) => Ok(Some(Text::of(path))),
-            Err(_) => Err(NoMemory),
-        },
-        Err(_) => Ok(None),
-    }
+    let Ok(text) = str::from_utf8(bytes) else {
+        return Ok(None);
+    };
+    let path = String::from_str(alloc, text)?;
+    Ok(Some(Text::of(path)))
 }

@@ -7,11 +7,10 @@ ghost use Rattle.tape_routes.specs.Asked.{Replies, routed_view, bad_request};
 
 use crate::routed::Routed;
 use crate::routes::Endpoint;
-use conn::Request;
 use cta_site::{NoMemory, Text};
 use std::alloc::Global;
 use tape_json::BodyError;
-use wire_http::{Kind, Reply, error_reply};
+use wire_http::{Kind, Reply, Request, error_reply};
 
 // The reply to HEAD has no body.
 fn refused_reply(
@@ -53,14 +52,9 @@ fn refused_method(
 ) -> Result<Routed, NoMemory>
     ensures { IfOk result (λ routed. routed_view routed ≡ Replies (refused_reply request.now 405 text.now (Some methods.now))) }
 {
-    match String::from_str(alloc, methods) {
-        Ok(methods) => {
-            let allow = Some(Text::of(methods));
-            let reply = refused_reply(alloc, request, 405, text, allow)?;
-            Ok(Routed::Reply(reply))
-        }
-        Err(_) => Err(NoMemory),
-    }
+    let methods = String::from_str(alloc, methods)?;
+    let reply = refused_reply(alloc, request, 405, text, Some(Text::of(methods)))?;
+    Ok(Routed::Reply(reply))
 }
 
 // The route of the target has other methods.

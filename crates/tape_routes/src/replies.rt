@@ -31,13 +31,9 @@ fn plain_reply(code: u16, kind: Kind, close: bool) -> Reply
 fn requests_address(alloc: Global, site: &ValidSite) -> Result<String, NoMemory>
     ensures { IfOk result (λ address. string_bytes address ≡ site.now.endpoint ++ codes "/stage/") }
 {
-    match String::from_str(alloc, site.endpoint().as_str()) {
-        Ok(mut address) => match address.push_str("/stage/") {
-            Ok(()) => Ok(address),
-            Err(_) => Err(NoMemory),
-        },
-        Err(_) => Err(NoMemory),
-    }
+    let mut address = String::from_str(alloc, site.endpoint().as_str())?;
+    address.push_str("/stage/")?;
+    Ok(address)
 }
 
 // The address of a stage request.

@@ -9,10 +9,10 @@ use crate::routed::Routed;
 use crate::router::Routes;
 use crate::routes::Meaning;
 use crate::{asks, bodiless};
-use conn::Request;
 use cta_model::Look;
 use cta_site::{NoMemory, ValidSite};
 use std::alloc::Global;
+use wire_http::Request;
 
 // What a request asks whose method means this, with the parameter of its target.
 fn asked_by(

@@ -54,12 +54,10 @@ fn document(alloc: Global, site: &ValidSite) -> Result<Text, NoMemory>
     ensures { IfOk result (λ text. text ≡ print (well_known_tokens site.now)) }
 {
     let mut out = Writer::new(Vec::new(alloc));
-    match write_document(&mut out, site) {
-        Ok(()) => match String::from_utf8(out.into_inner()) {
-            Ok(text) => Ok(Text::of(text)),
-            Err(_) => unreachable!(),
-        },
-        Err(_) => Err(NoMemory),
+    write_document(&mut out, site)?;
+    match String::from_utf8(out.into_inner()) {
+        Ok(text) => Ok(Text::of(text)),
+        Err(_) => unreachable!(),
     }
 }
 

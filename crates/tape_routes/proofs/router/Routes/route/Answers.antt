@@ -1,7 +1,7 @@
 use Rattle.std.proofs.Common.{◌≡◌, ◌∙◌, ℕ, List, [], Option, Some, IfOk, ap, subst, sym, unwrap_or}
 use Rattle.percent_encoding.specs.Percent.{percent_decode}
 use Rattle.cta_site.specs.declared.site.Site.{Site}
-use Rattle.conn.specs.declared.request.Request.{Request}
+use Rattle.wire_http.specs.declared.request.Request.{Request}
 use Rattle.tape_routes.specs.declared.routes.Endpoint.{Endpoint}
 use Rattle.tape_routes.specs.declared.routes.Meaning.{Meaning}
 use Rattle.tape_routes.specs.Routes.{endpoint_of, meaning_of, parameter_of}
