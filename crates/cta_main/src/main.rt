@@ -18,7 +18,11 @@ fn run(rt: &HostRuntime) -> Status {
         Ok(words) => words,
         Err(status) => return status,
     };
-    let mut site = FileSource::open(rt, site_path(&words));
+    let path = match site_path(rt.alloc(), &words) {
+        Ok(path) => path,
+        Err(status) => return status,
+    };
+    let mut site = FileSource::open(rt, path);
     let mut script = StdSource::new(rt);
     let mut out = StdSink::new(rt);
     replay_top(rt.alloc(), &words, &mut site, &mut script, &mut out)

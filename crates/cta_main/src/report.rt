@@ -4,8 +4,8 @@ ghost use Rattle.cta_main.specs.Exit.{exit_number};
 
 use replay::Status;
 
-/// The number that the process ends with.
-pub fn number(status: Status) -> u8
+// The number that the process ends with.
+pub(crate) fn number(status: Status) -> u8
     ensures { result ≡ exit_number status }
 {
     match status {
@@ -22,8 +22,8 @@ pub fn number(status: Status) -> u8
     }
 }
 
-/// Prints the line of a status on standard error, where it has one. That this may fail is not told.
-pub fn complain(rt: &HostRuntime, status: Status) {
+// Prints the line of a status on standard error, where it has one. That this may fail is not told.
+pub(crate) fn complain(rt: &HostRuntime, status: Status) {
     let _ = match status {
         Status::Ok => Ok(()),
         Status::Usage => eprintln!(rt;

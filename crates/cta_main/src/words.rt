@@ -1,10 +1,12 @@
 // The words of the command line.
+use cta_words::{Form, WordsError, read_words};
 use replay::Status;
+use std::alloc::Global;
 use std::env;
 use std::io::ErrorKind;
 
-/// The words of the command line behind the program's name. A word that is not UTF-8 is no word of any form.
-pub fn words(rt: &HostRuntime) -> Result<Vec<String>, Status> {
+// The words of the command line behind the program's name. A word that is not UTF-8 is no word of any form.
+pub(crate) fn words(rt: &HostRuntime) -> Result<Vec<String>, Status> {
     let args = match env::args(rt) {
         Ok(args) => args,
         Err(error) => {
@@ -23,10 +25,11 @@ pub fn words(rt: &HostRuntime) -> Result<Vec<String>, Status> {
     Ok(words)
 }
 
-/// The path of the site file, where there are two words; otherwise a path that no file has.
-pub fn site_path(words: &[String]) -> &str {
-    match words {
-        [_, path] => path.as_str(),
-        _ => "",
+// The path of the site file, where the words have the form that is built; otherwise a path that no file has.
+pub(crate) fn site_path<'a>(alloc: Global, words: &'a [String]) -> Result<&'a str, Status> {
+    match read_words(alloc, words) {
+        Ok(Form::Replay { site }) => Ok(site),
+        Ok(_) | Err(WordsError::Usage) => Ok(""),
+        Err(WordsError::NoMemory) => Err(Status::NoMemory),
     }
 }

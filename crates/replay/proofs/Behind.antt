@@ -1,62 +1,57 @@
 -- An ending behind further whole records.
-use Rattle.std.proofs.Common.{◌≡◌, ℕ, ◌+◌, ◌≤◌, inl, inr, List, ◌++◌, length, ap, ◌∙◌, subst, arith, length-append}
-use Rattle.std.specs.Io.KnownBytes.{Appends}
-use Rattle.std.proofs.KnownBytes.{Appends-trans}
+use Rattle.std.proofs.Common.{◌≡◌, ℕ, ◌+◌, ◌≤◌, inl, inr, List, ◌++◌, length, ap, ◌∙◌, arith, length-append}
 use Rattle.std.proofs.lemmas.List.Concat.{flat_map-append}
-use Rattle.outside.specs.Streams.{AppendsFront}
+use Rattle.cta_site.specs.declared.site.Site.{Site}
 use Rattle.cta_model.specs.Kept.{Kept}
-use Rattle.links.specs.Run.{Feed, Told}
-use Rattle.links.specs.Replies.{after}
-use Rattle.replay.specs.Script.{Cut, whole_bytes, spelling}
-use Rattle.replay.specs.Output.{by_archive, output_on}
-use Rattle.replay.specs.Outcome.{World, Wrote, IsScriptFault, IsUnbuiltAt, Ends}
+use Rattle.replay.specs.Seen.{World}
+use Rattle.replay.specs.Script.{Record, ScriptCut, whole_bytes, spelling}
+use Rattle.replay.specs.Run.{Happening}
+use Rattle.replay.specs.Output.{after}
+use Rattle.replay.specs.Outcome.{Wrote, IsScriptFault, IsUnbuiltAt, EndsScript}
 use Rattle.replay.specs.declared.status.Status.{Status}
 use Rattle.replay.specs.declared.status.Status.TheVariants.{Ok, Usage, Site as SiteRule, Script, ReadFault, WriteFault, NoMemory, TooLong, ListenFault, NotBuilt}
-use Rattle.replay.proofs.Writing.{output_on-behind, AppendsFront-after, frames_behind}
+use Rattle.replay.proofs.Writing.{wrote_behind, first_behind, front_behind}
 
-abbrev pub behind : List Feed → Cut → Cut
-behind feeds c = record { whole = feeds ++ c.whole; tail = c.tail }
+abbrev pub behind : List Record → ScriptCut → ScriptCut
+behind records c = record { whole = records ++ c.whole; tail = c.tail }
 
 -- what an ending says of what was written and taken since m holds of what was since a
-pub record IsBefore (n k : Kept) (feeds : List Feed) (told : List Told) (a m : World) : Type 0 where
-  pub keeps : k ≡ after by_archive n told
-  pub taken : m.taken ≡ a.taken + length (whole_bytes feeds)
-  pub read_later : a.read_faults ≤ m.read_faults
-  pub write_later : a.write_faults ≤ m.write_faults
-  pub wrote : Appends a.written m.written (output_on n told)
+pub record IsBefore (n k : Kept) (records : List Record) (happened : List Happening) (a m : World) : Type 0 where
+  pub keeps : k ≡ after n happened
+  pub same : k.site ≡ n.site
+  pub taken : m.script.taken ≡ a.script.taken + length (whole_bytes n.site records)
+  pub read_later : a.script.faults ≤ m.script.faults
+  pub write_later : a.out.faults ≤ m.out.faults
+  pub wrote : Wrote n a.out m.out happened
 
-pub whole_bytes-append : (xs ys : List Feed) → whole_bytes (xs ++ ys) ≡ whole_bytes xs ++ whole_bytes ys
-whole_bytes-append xs ys = flat_map-append spelling xs ys
+pub whole_bytes-append : (site : Site) (xs ys : List Record) → whole_bytes site (xs ++ ys) ≡ whole_bytes site xs ++ whole_bytes site ys
+whole_bytes-append site xs ys = flat_map-append (spelling site) xs ys
 
-length-whole : (xs ys : List Feed) → length (whole_bytes (xs ++ ys)) ≡ length (whole_bytes xs) + length (whole_bytes ys)
-length-whole xs ys = ap length (whole_bytes-append xs ys) ∙ length-append (whole_bytes xs) (whole_bytes ys)
+length-whole : (site : Site) (xs ys : List Record) → length (whole_bytes site (xs ++ ys)) ≡ length (whole_bytes site xs) + length (whole_bytes site ys)
+length-whole site xs ys = ap length (whole_bytes-append site xs ys) ∙ length-append (whole_bytes site xs) (whole_bytes site ys)
 
-module _ (n k : Kept) (feeds : List Feed) (told more : List Told) (a m b : World) (c : Cut) (h : IsBefore n k feeds told a m) where
-  Wrote-behind : Wrote k m b more → Wrote n a b (told ++ more)
-  Wrote-behind p =
-      subst (λ bs. Appends a.written b.written bs) (output_on-behind n k told more h.keeps)
-      (Appends-trans a.written m.written b.written (output_on n told) (output_on k more) h.wrote p)
+module _ (n k : Kept) (records : List Record) (happened more : List Happening) (a m b : World) (c : ScriptCut) (h : IsBefore n k records happened a m) where
+  Wrote-behind : Wrote k m.out b.out more → Wrote n a.out b.out (happened ++ more)
+  Wrote-behind p = wrote_behind n k a.out m.out b.out happened more h.keeps h.wrote p
 
-  fault_behind : (offset : ℕ) → IsScriptFault offset m b c → IsScriptFault offset a b (behind feeds c)
-  fault_behind offset (inl (at, refused, e)) = let whole = length-whole feeds c.whole in inl (at, refused, omega (arith, h.taken))
+  whole : length (whole_bytes k.site c.whole) ≡ length (whole_bytes n.site c.whole)
+  whole = ap (λ site. length (whole_bytes site c.whole)) h.same
+
+  fault_behind : (offset : ℕ) → IsScriptFault offset k.site m.script b.script c → IsScriptFault offset n.site a.script b.script (behind records c)
+  fault_behind offset (inl (at, refused, e)) = let both = length-whole n.site records c.whole in inl (at, refused, omega (arith, h.taken, whole))
   fault_behind offset (inr p) = inr p
 
-  unbuilt_behind : (offset : ℕ) → IsUnbuiltAt offset m c → IsUnbuiltAt offset a (behind feeds c)
-  unbuilt_behind offset p = let whole = length-whole feeds c.whole in (p.0, omega (arith, h.taken, p.1))
+  unbuilt_behind : (offset : ℕ) → IsUnbuiltAt offset k.site m.script c → IsUnbuiltAt offset n.site a.script (behind records c)
+  unbuilt_behind offset p = let both = length-whole n.site records c.whole in (p.0, omega (arith, h.taken, p.1, whole))
 
-  pub Ends-behind : (status : Status) → Ends status k m b c more → Ends status n a b (behind feeds c) (told ++ more)
-  Ends-behind Ok p = (p.0, Wrote-behind p.1)
-  Ends-behind Usage p = p
-  Ends-behind (SiteRule rule item) p = p
-  Ends-behind (Script offset) p = (fault_behind offset p.0, Wrote-behind p.1)
-  Ends-behind ReadFault p = let le = h.read_later in (p.0, omega (arith, p.1), p.2, Wrote-behind p.3)
-  Ends-behind WriteFault p =
-      let le = h.write_later in (
-        omega (arith, p.0),
-        subst (λ bs. AppendsFront a.written b.written bs) (output_on-behind n k told more h.keeps)
-            (AppendsFront-after a.written m.written b.written (output_on n told) (output_on k more) h.wrote p.1),
-      )
-  Ends-behind NoMemory p = frames_behind n k a.written m.written b.written told more h.keeps h.wrote p
-  Ends-behind TooLong p = (p.0, p.1, Wrote-behind p.2)
-  Ends-behind (NotBuilt offset) p = (unbuilt_behind offset p.0, Wrote-behind p.1)
-  Ends-behind ListenFault p = p
+  pub EndsScript-behind : (status : Status) → EndsScript status k m b c more → EndsScript status n a b (behind records c) (happened ++ more)
+  EndsScript-behind Ok p = (p.0, Wrote-behind p.1)
+  EndsScript-behind Usage p = p
+  EndsScript-behind (SiteRule rule item) p = p
+  EndsScript-behind (Script offset) p = (fault_behind offset p.0, Wrote-behind p.1)
+  EndsScript-behind ReadFault p = let le = h.read_later in (p.0, omega (arith, p.1), p.2, Wrote-behind p.3)
+  EndsScript-behind WriteFault p = let le = h.write_later in (p.0, omega (arith, p.1), front_behind n k a.out m.out b.out happened more h.keeps h.wrote p.2)
+  EndsScript-behind NoMemory p = (p.0, first_behind n k a.out m.out b.out happened more h.keeps h.wrote p.1)
+  EndsScript-behind TooLong p = (p.0, p.1, Wrote-behind p.2)
+  EndsScript-behind (NotBuilt offset) p = (unbuilt_behind offset p.0, Wrote-behind p.1)
+  EndsScript-behind ListenFault p = p

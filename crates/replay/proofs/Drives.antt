@@ -16,7 +16,7 @@ use Rattle.cta_site.specs.Lookups.{place_by}
 use Rattle.cta_site.specs.Names.{IsName, AreAscending, is_name_byte}
 use Rattle.cta_site.specs.Names.{drive_names}
 use Rattle.cta_site.specs.WellFormed.{IsWellFormed}
-use Rattle.replay.specs.Bytes.{Without}
+use Rattle.cta_site.specs.Bytes.{Without}
 use Rattle.replay.specs.Line.{drive_name}
 
 holds_at : {X : Type 0} (P : X → Type 0) (xs : List X) (i : ℕ) (d : X) → AllByRecursion P xs → i < length xs → P (get_or xs i d)

@@ -10,6 +10,7 @@ pub mod Ending
 pub mod Behind
 pub mod Lines
 pub mod Running
+pub mod Histories
 pub mod Texts
 pub mod Readings
 pub mod OneReading

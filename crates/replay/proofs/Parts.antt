@@ -7,7 +7,7 @@ use Rattle.std.specs.Int.{IsInRange}
 use Rattle.std.proofs.lemmas.Str.Parse.{digit_at}
 use Rattle.std.proofs.lemmas.Fmt.{digits_decimal}
 use Rattle.std.proofs.lemmas.List.Elements.{recursion_from_All, All-from_get_or}
-use Rattle.replay.specs.Bytes.{Without}
+use Rattle.cta_site.specs.Bytes.{Without}
 use Rattle.replay.proofs.Numbers.{own}
 
 -- a word and the byte behind it are found in one way

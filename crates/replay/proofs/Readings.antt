@@ -3,9 +3,9 @@ use Rattle.std.proofs.Common.{◌≡◌, ℕ, ◌+◌, ◌<◌, ◌≤◌, ◌�
 use Rattle.std.specs.List.{AllByRecursion}
 use Rattle.std.proofs.lemmas.List.{append_cancel_left}
 use Rattle.cta_site.specs.declared.site.Site.{Site}
-use Rattle.replay.specs.Line.{text, http_text}
+use Rattle.replay.specs.Line.{text, http_text, IsHttp}
 use Rattle.links.specs.Run.{Feed}
-use Rattle.replay.specs.Script.{feed, Tail, Ended, InLine, InBytes, BadLine, LongLine, NoLf, UnbuiltStep, IsOpen, IsTail, IsRecord, ended, feeding, whole_bytes, tail_bytes, spelling}
+use Rattle.replay.specs.Script.{feed, Record, OfLink, OfDrive, ScriptTail, Ended, InLine, InBytes, BadLine, LongLine, NoLf, UnbuiltStep, MayGoOn, IsScriptTail, IsCarriedOut, ended, feeding, whole_bytes, tail_bytes, spelling}
 use Rattle.replay.specs.declared.line.HttpLine.{HttpLine}
 use Rattle.replay.specs.declared.line.Line.{Line}
 use Rattle.replay.specs.declared.line.Line.TheVariants.{Http, Step, End}
@@ -20,8 +20,15 @@ line_of_record f = http f.link f.moment (length f.bytes)
 abbrev pub behind_line : Feed → List ℕ → List ℕ
 behind_line f r = f.bytes ++ 10 ∷ r
 
+-- a whole record of bytes
+abbrev pub fed_text : Feed → List ℕ
+fed_text f = feeding f.link f.moment (length f.bytes) f.bytes ++ 10 ∷ []
+
+abbrev pub IsFed : Feed → Type 0
+IsFed f = IsHttp f.link f.moment (length f.bytes)
+
 -- a whole record, and more behind it
-pub spelled : (f : Feed) (r : List ℕ) → spelling f ++ r ≡ line_text (line_of_record f) ++ 10 ∷ behind_line f r
+pub spelled : (f : Feed) (r : List ℕ) → fed_text f ++ r ≡ line_text (line_of_record f) ++ 10 ∷ behind_line f r
 spelled f r =
     append_assoc (feeding f.link f.moment (length f.bytes) f.bytes) (10 ∷ []) r
     ∙ append_assoc (ended (http_text f.link f.moment (length f.bytes))) f.bytes (10 ∷ r)
@@ -43,7 +50,7 @@ http_len a b c a' b' c' e =
 http_end : (a b c : ℕ) → http a b c ≡ End → ⊥
 http_end a b c e = cc
 
-pub same_record : (f g : Feed) (r s : List ℕ) → IsRecord f → IsRecord g → spelling f ++ r ≡ spelling g ++ s → (f ≡ g) × (r ≡ s)
+pub same_record : (f g : Feed) (r s : List ℕ) → IsFed f → IsFed g → fed_text f ++ r ≡ fed_text g ++ s → (f ≡ g) × (r ≡ s)
 same_record f g r s h k d =
     let p = same_line (line_of_record f) (line_of_record g) (behind_line f r) (behind_line g s) h k (sym (spelled f r) ∙ d ∙ spelled g s) in
     let n = http_len f.link f.moment (length f.bytes) g.link g.moment (length g.bytes) p.0 in
@@ -52,7 +59,7 @@ same_record f g r s h k d =
 
 module _ (site : Site) where
   -- what a tail is where a line of a record or the line `end` stands
-  abbrev Against : Tail → List ℕ → Line → List ℕ → Type 0
+  abbrev Against : ScriptTail → List ℕ → Line → List ℕ → Type 0
   Against Ended x l z = End ≡ l
   Against (InLine part) x l z = length part ≤ length (line_text l)
   Against (InBytes link moment len held) x l z = (http link moment len ≡ l) × (held ++ x ≡ z)
@@ -62,12 +69,12 @@ module _ (site : Site) where
   Against (UnbuiltStep drive moment) x l z = ⊥
 
   -- a line that is none of a script's is none of these
-  not_bad : (line : List ℕ) (x : List ℕ) (l : Line) (z : List ℕ) → IsTail site (BadLine line) → IsBuiltLine l → line ≡ line_text l → ⊥
+  not_bad : (line : List ℕ) (x : List ℕ) (l : Line) (z : List ℕ) → IsScriptTail site (BadLine line) → IsBuiltLine l → line ≡ line_text l → ⊥
   not_bad line x (Http m) z h k e = h.2 (Http m) k (sym e)
   not_bad line x (Step drive moment) z h k e = k
   not_bad line x End z h k e = h.2 End tt (sym e)
 
-  pub against : (t : Tail) (x : List ℕ) (l : Line) (z : List ℕ) → IsTail site t → IsBuiltLine l → tail_bytes site t ++ x ≡ line_text l ++ 10 ∷ z → Against t x l z
+  pub against : (t : ScriptTail) (x : List ℕ) (l : Line) (z : List ℕ) → IsScriptTail site t → IsBuiltLine l → tail_bytes site t ++ x ≡ line_text l ++ 10 ∷ z → Against t x l z
   against Ended x l z h k e = (same_line End l x z tt k e).0
   against (InLine part) x l z h k e = length-without 10 part (line_text l) x z h.0 e
   against (InBytes link moment len held) x l z h k e =
@@ -86,10 +93,10 @@ module _ (site : Site) where
   against (UnbuiltStep drive moment) x l z h k e = not_step site drive moment l (10 ∷ x) (10 ∷ z) k (sym (append_assoc (text site (Step drive moment)) (10 ∷ []) x) ∙ e)
 
   -- it is the line `end`, or it may go on and is no longer than so many bytes
-  abbrev pub StopsBelow : Tail → ℕ → Type 0
-  StopsBelow t n = (t ≡ Ended) ⊎ (IsOpen t × (length (tail_bytes site t) < n))
+  abbrev pub StopsBelow : ScriptTail → ℕ → Type 0
+  StopsBelow t n = (t ≡ Ended) ⊎ (MayGoOn t × (length (tail_bytes site t) < n))
 
-  below_end : (t : Tail) (x y : List ℕ) → Against t x End y → StopsBelow t 4
+  below_end : (t : ScriptTail) (x y : List ℕ) → Against t x End y → StopsBelow t 4
   below_end Ended x y a = inl refl
   below_end (InLine part) x y a = inr (tt, omega (arith, a))
   below_end (InBytes link moment len held) x y a = absurd (http_end link moment len a.0)
@@ -98,18 +105,18 @@ module _ (site : Site) where
   below_end (NoLf link moment bytes byte) x y a = absurd (http_end link moment (length bytes) a.0)
   below_end (UnbuiltStep drive moment) x y a = absurd a
 
-  length-spelling : (f : Feed) → length (spelling f) ≡ length (line_text (line_of_record f)) + 1 + length (behind_line f [])
-  length-spelling f = let e = ap length (spelled f []) in omega (arith, length-append (spelling f) [], length-append (line_text (line_of_record f)) (10 ∷ behind_line f []), e)
+  length-fed : (f : Feed) → length (fed_text f) ≡ length (line_text (line_of_record f)) + 1 + length (behind_line f [])
+  length-fed f = let e = ap length (spelled f []) in omega (arith, length-append (fed_text f) [], length-append (line_text (line_of_record f)) (10 ∷ behind_line f []), e)
 
-  pub below_record : (t : Tail) (f : Feed) (x r : List ℕ) → IsTail site t → IsRecord f → Against t x (line_of_record f) (behind_line f r) → IsOpen t × (length (tail_bytes site t) < length (spelling f))
+  pub below_record : (t : ScriptTail) (f : Feed) (x r : List ℕ) → IsScriptTail site t → IsFed f → Against t x (line_of_record f) (behind_line f r) → MayGoOn t × (length (tail_bytes site t) < length (fed_text f))
   below_record Ended f x r h k a = absurd (http_end f.link f.moment (length f.bytes) (sym a))
-  below_record (InLine part) f x r h k a = let n = length-spelling f in (tt, omega (arith, a))
+  below_record (InLine part) f x r h k a = let n = length-fed f in (tt, omega (arith, a))
   below_record (InBytes link moment len held) f x r h k a =
       let bytes = f.bytes in
       let p = http_len link moment len f.link f.moment (length bytes) a.0 in
       let fits : length held ≤ length bytes = omega (arith, h.1, p.2) in
       let front : length (feeding link moment len held) ≡ length (ended (http_text link moment len)) + length held = length-append (ended (http_text link moment len)) held in
-      let whole : length (spelling f) ≡ length (ended (http_text f.link f.moment (length bytes))) + length bytes + 1 =
+      let whole : length (fed_text f) ≡ length (ended (http_text f.link f.moment (length bytes))) + length bytes + 1 =
       length-append (feeding f.link f.moment (length bytes) bytes) (10 ∷ []) ∙ ap (λ n. n + 1) (length-append (ended (http_text f.link f.moment (length bytes))) bytes) in
       let same : length (ended (http_text link moment len)) ≡ length (ended (http_text f.link f.moment (length bytes))) = ap (λ l. length (ended (line_text l))) a.0 in
       (tt, omega arith)
@@ -121,35 +128,38 @@ module _ (site : Site) where
       absurd (h.1 (same_head byte 10 x r q.1))
   below_record (UnbuiltStep drive moment) f x r h k a = absurd a
 
-  no_record_is_end : (f : Feed) (r y : List ℕ) → IsRecord f → spelling f ++ r ≡ codes "end" ++ 10 ∷ y → ⊥
+  no_record_is_end : (f : Feed) (r y : List ℕ) → IsFed f → fed_text f ++ r ≡ codes "end" ++ 10 ∷ y → ⊥
   no_record_is_end f r y h d =
       http_end f.link f.moment (length f.bytes) (same_line (line_of_record f) End (behind_line f r) y h tt (sym (spelled f r) ∙ d)).0
 
   -- it is read whole, or the reading may go on and is shorter
-  abbrev pub StopsWithin : List Feed → List Feed → Tail → Type 0
-  StopsWithin es fs t = ((es ≡ fs) × (t ≡ Ended)) ⊎ (IsOpen t × (length (whole_bytes es) + length (tail_bytes site t) < length (whole_bytes fs) + 4))
+  abbrev pub StopsWithin : List Record → List Record → ScriptTail → Type 0
+  StopsWithin es fs t = ((es ≡ fs) × (t ≡ Ended)) ⊎ (MayGoOn t × (length (whole_bytes site es) + length (tail_bytes site t) < length (whole_bytes site fs) + 4))
 
-  none_within : (t : Tail) → StopsBelow t 4 → StopsWithin [] [] t
+  none_within : (t : ScriptTail) → StopsBelow t 4 → StopsWithin [] [] t
   none_within t (inl e) = inl (refl, e)
   none_within t (inr p) = inr (p.0, omega (arith, p.1))
 
-  one_within : (es fs : List Feed) (e f : Feed) (t : Tail) → e ≡ f → StopsWithin es fs t → StopsWithin (e ∷ es) (f ∷ fs) t
-  one_within es fs e f t same (inl p) = inl (ap (λ k. k ∷ es) same ∙ ap (λ l. f ∷ l) p.0, p.1)
+  one_within : (es fs : List Record) (e f : Feed) (t : ScriptTail) → e ≡ f → StopsWithin es fs t → StopsWithin (OfLink e ∷ es) (OfLink f ∷ fs) t
+  one_within es fs e f t same (inl p) = inl (ap (λ k. OfLink k ∷ es) same ∙ ap (λ l. OfLink f ∷ l) p.0, p.1)
   one_within es fs e f t same (inr p) =
-      let k : length (spelling e) ≡ length (spelling f) = ap (λ d. length (spelling d)) same in
-      inr (p.0, omega (arith, p.1, length-append (spelling e) (whole_bytes es), length-append (spelling f) (whole_bytes fs)))
+      let k : length (fed_text e) ≡ length (fed_text f) = ap (λ d. length (fed_text d)) same in
+      inr (p.0, omega (arith, p.1, length-append (fed_text e) (whole_bytes site es), length-append (fed_text f) (whole_bytes site fs)))
 
   -- where a reading stops of a text that reaches its line `end`
-  pub stops_before_end : (es fs : List Feed) (t : Tail) (x y : List ℕ) → AllByRecursion IsRecord es → AllByRecursion IsRecord fs → IsTail site t
-      → whole_bytes es ++ (tail_bytes site t ++ x) ≡ whole_bytes fs ++ (codes "end" ++ 10 ∷ y) → StopsWithin es fs t
+  pub stops_before_end : (es fs : List Record) (t : ScriptTail) (x y : List ℕ) → AllByRecursion (IsCarriedOut site) es → AllByRecursion (IsCarriedOut site) fs → IsScriptTail site t
+      → whole_bytes site es ++ (tail_bytes site t ++ x) ≡ whole_bytes site fs ++ (codes "end" ++ 10 ∷ y) → StopsWithin es fs t
   stops_before_end [] [] t x y p q h d = none_within t (below_end t x y (against t x End y h tt d))
-  stops_before_end [] (f ∷ fs) t x y p q h d =
-      let r = whole_bytes fs ++ (codes "end" ++ 10 ∷ y) in
-      let line = append_assoc (spelling f) (whole_bytes fs) (codes "end" ++ 10 ∷ y) ∙ spelled f r in
-      let a = below_record t f x r h q.0 (against t x (line_of_record f) (behind_line f r) h q.0 (d ∙ line)) in
-      inr (a.0, omega (arith, a.1, length-append (spelling f) (whole_bytes fs)))
-  stops_before_end (e ∷ es) [] t x y p q h d =
-      absurd (no_record_is_end e (whole_bytes es ++ (tail_bytes site t ++ x)) y p.0 (sym (append_assoc (spelling e) (whole_bytes es) (tail_bytes site t ++ x)) ∙ d))
-  stops_before_end (e ∷ es) (f ∷ fs) t x y p q h d =
-      let g = same_record e f _ _ p.0 q.0 (sym (append_assoc (spelling e) (whole_bytes es) (tail_bytes site t ++ x)) ∙ d ∙ append_assoc (spelling f) (whole_bytes fs) (codes "end" ++ 10 ∷ y)) in
+  stops_before_end [] (OfDrive drive moment ∷ fs) t x y p q h d = absurd q.0.1
+  stops_before_end [] (OfLink f ∷ fs) t x y p q h d =
+      let r = whole_bytes site fs ++ (codes "end" ++ 10 ∷ y) in
+      let line = append_assoc (fed_text f) (whole_bytes site fs) (codes "end" ++ 10 ∷ y) ∙ spelled f r in
+      let a = below_record t f x r h q.0.0 (against t x (line_of_record f) (behind_line f r) h q.0.0 (d ∙ line)) in
+      inr (a.0, omega (arith, a.1, length-append (fed_text f) (whole_bytes site fs)))
+  stops_before_end (OfDrive drive moment ∷ es) fs t x y p q h d = absurd p.0.1
+  stops_before_end (OfLink e ∷ es) [] t x y p q h d =
+      absurd (no_record_is_end e (whole_bytes site es ++ (tail_bytes site t ++ x)) y p.0.0 (sym (append_assoc (fed_text e) (whole_bytes site es) (tail_bytes site t ++ x)) ∙ d))
+  stops_before_end (OfLink e ∷ es) (OfDrive drive moment ∷ fs) t x y p q h d = absurd q.0.1
+  stops_before_end (OfLink e ∷ es) (OfLink f ∷ fs) t x y p q h d =
+      let g = same_record e f _ _ p.0.0 q.0.0 (sym (append_assoc (fed_text e) (whole_bytes site es) (tail_bytes site t ++ x)) ∙ d ∙ append_assoc (fed_text f) (whole_bytes site fs) (codes "end" ++ 10 ∷ y)) in
       one_within es fs e f t g.0 (stops_before_end es fs t x y p.1 q.1 h g.1)

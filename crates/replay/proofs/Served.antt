@@ -1,5 +1,5 @@
 -- The answers that the archive gives callers, and the replies to them.
-use Rattle.std.proofs.Common.{◌≡◌, ℕ, Bool, true, false, List, [], ◌∷◌, None, Option, Result, Ok, Err, IfOk, OnOk, not, refl, sym, ap, ◌∙◌}
+use Rattle.std.proofs.Common.{◌≡◌, ℕ, Bool, true, false, List, [], ◌∷◌, None, Option, Result, Ok, Err, IfOk, OnOk, not, refl, sym, ap, ◌∙◌, subst}
 use Rattle.std.specs.Prelude.{◌+◌, map, nat_lt, is_some, is_none}
 use Rattle.cta_site.specs.declared.site.Site.{Site}
 use Rattle.cta_site.specs.Lookups.{class_of}
@@ -21,14 +21,13 @@ use Rattle.cta_model.specs.declared.answers.Refusal.{Refusal}
 use Rattle.cta_model.specs.declared.answers.Refusal.TheVariants as refusal
 use Rattle.cta_model.specs.declared.reports.FailedCopy.{FailedCopy}
 use Rattle.cta_model.specs.Kept.{Kept, kept_after}
-use Rattle.conn.specs.Stands.{request_view}
-use Rattle.conn.specs.declared.request.Request.{Request}
+use Rattle.wire_http.specs.declared.request.Request.{Request}
 use Rattle.wire_http.specs.declared.reply.Reply.{Reply}
-use Rattle.wire_http.specs.Reply.{reply_text}
+use Rattle.wire_http.specs.Reply.{ReplyView, reply_text, reply_view, view_text}
 use Rattle.tape_json.specs.Reports.{failed_report}
 use Rattle.tape_routes.specs.Asked.{Asked, Asks, Looks, Replies, asked}
 use Rattle.tape_routes.specs.Replies.{is_for_callers, HasContent, reply_for}
-use Rattle.replay.specs.Output.{reply_to, kept_then, request_reply, request_keeps}
+use Rattle.tape_routes.specs.Answering.{FitsAnswer, FitsAsked, FitsRequest, IsReplyTo, RepliesWith, answer_view, kept_then, reply_to, request_keeps, request_reply}
 
 -- an answer that a caller gets and that comes with no content
 pub is_plain : Answer → Bool
@@ -200,11 +199,60 @@ plain_has_content (answer.TapeSeen info) e = tt
 plain_has_content (answer.QueuesSeen infos) e = tt
 plain_has_content (answer.Refused refused) e = tt
 
+plain_fits : (a : Answer) → is_plain a ≡ true → FitsAnswer a None
+unfolding is_plain
+plain_fits (answer.Bytes sum) e = absurd (let no : false ≡ true = e in cc)
+plain_fits (answer.Stored evicted) e = refl
+plain_fits answer.Done e = refl
+plain_fits (answer.Staged id) e = refl
+plain_fits (answer.Mounted mount direction tape) e = refl
+plain_fits answer.Idle e = refl
+plain_fits answer.DriveDown e = refl
+plain_fits answer.DriveBusy e = refl
+plain_fits (answer.Batch items evicted) e = refl
+plain_fits answer.Nothing e = refl
+plain_fits (answer.Told fates) e = refl
+plain_fits (answer.Arrived fate) e = refl
+plain_fits (answer.Repacking id items) e = refl
+plain_fits (answer.Retried jobs) e = refl
+plain_fits (answer.Stage info) e = refl
+plain_fits (answer.Places infos) e = refl
+plain_fits (answer.RepackSeen info) e = refl
+plain_fits (answer.FailedSeen copies) e = refl
+plain_fits (answer.TapeSeen info) e = refl
+plain_fits (answer.QueuesSeen infos) e = refl
+plain_fits (answer.Refused refused) e = refl
+
+plain_view : (site : Site) (a : Answer) (close : Bool) → is_plain a ≡ true → reply_view (reply_for site a None close) ≡ answer_view site a None close
+unfolding is_plain
+plain_view site (answer.Bytes sum) close e = absurd (let no : false ≡ true = e in cc)
+plain_view site (answer.Stored evicted) close e = refl
+plain_view site answer.Done close e = refl
+plain_view site (answer.Staged id) close e = refl
+plain_view site (answer.Mounted mount direction tape) close e = refl
+plain_view site answer.Idle close e = refl
+plain_view site answer.DriveDown close e = refl
+plain_view site answer.DriveBusy close e = refl
+plain_view site (answer.Batch items evicted) close e = refl
+plain_view site answer.Nothing close e = refl
+plain_view site (answer.Told fates) close e = refl
+plain_view site (answer.Arrived fate) close e = refl
+plain_view site (answer.Repacking id items) close e = refl
+plain_view site (answer.Retried jobs) close e = refl
+plain_view site (answer.Stage info) close e = refl
+plain_view site (answer.Places infos) close e = refl
+plain_view site (answer.RepackSeen info) close e = refl
+plain_view site (answer.FailedSeen copies) close e = refl
+plain_view site (answer.TapeSeen info) close e = refl
+plain_view site (answer.QueuesSeen infos) close e = refl
+plain_view site (answer.Refused refused) close e = refl
+
 -- an answer of the code that says what was asked for
 pub record Serves (a told : Answer) : Type 0 where
   pub callers : is_for_callers a ≡ true
   pub content : HasContent a None
-  pub reply : (site : Site) (close : Bool) → reply_for site a None close ≡ reply_for site told None close
+  pub fits : FitsAnswer told None
+  pub view : (site : Site) (close : Bool) → reply_view (reply_for site a None close) ≡ answer_view site told None close
 
 serves : (a told : Answer) → is_plain told ≡ true → bare_answer a ≡ told → Serves a told
 serves a told p e =
@@ -212,7 +260,8 @@ serves a told p e =
     record {
       callers = plain_is_callers a plain;
       content = plain_has_content a plain;
-      reply = λ site close. sym ((told_alike a).reply site close) ∙ ap (λ x. reply_for site x None close) e;
+      fits = plain_fits told p;
+      view = λ site close. ap reply_view (sym ((told_alike a).reply site close) ∙ ap (λ x. reply_for site x None close) e) ∙ plain_view site told close p;
     }
 
 pub serves_ask : (site : Site) (h : History) (t : ℕ) (k : Ask) (a : Answer) → bare_answer a ≡ served_answer site h t k → Serves a (served_answer site h t (bare_ask k))
@@ -224,15 +273,19 @@ serves_look site h t k a e = serves a (served_look site h t (bare_look k)) (serv
 -- ---- what is replied
 
 pub ask_replied : {E : Type 0} (r : Result Reply E) (k : Kept) (t : ℕ) (close : Bool) (ask : Ask) (a : Answer) (site : Site) → bare_answer a ≡ served_answer k.site k.history t ask → site ≡ k.site
-    → IfOk r (λ reply. reply ≡ reply_for site a None close) → IfOk r (λ reply. reply ≡ reply_to k t close (Asks (bare_ask ask) None))
-unfolding reply_to
-ask_replied (Ok reply) k t close ask a site e same h = h ∙ ap (λ (x : Site). reply_for x a None close) same ∙ (serves_ask k.site k.history t ask a e).reply k.site close
+    → IfOk r (λ reply. reply ≡ reply_for site a None close) → IfOk r (λ reply. RepliesWith k t close (Asks (bare_ask ask) None) (reply_view reply))
+unfolding reply_to FitsAsked
+ask_replied (Ok reply) k t close ask a site e same h =
+    let s = serves_ask k.site k.history t ask a e in
+    record { content = None; fits = s.fits; is_reply = ap reply_view (h ∙ ap (λ (x : Site). reply_for x a None close) same) ∙ s.view k.site close }
 ask_replied (Err x) k t close ask a site e same h = tt
 
 pub look_replied : {E : Type 0} (r : Result Reply E) (k : Kept) (t : ℕ) (close : Bool) (look : Look) (a : Answer) (site : Site) → bare_answer a ≡ served_look k.site k.history t look → site ≡ k.site
-    → IfOk r (λ reply. reply ≡ reply_for site a None close) → IfOk r (λ reply. reply ≡ reply_to k t close (Looks (bare_look look)))
-unfolding reply_to
-look_replied (Ok reply) k t close look a site e same h = h ∙ ap (λ (x : Site). reply_for x a None close) same ∙ (serves_look k.site k.history t look a e).reply k.site close
+    → IfOk r (λ reply. reply ≡ reply_for site a None close) → IfOk r (λ reply. RepliesWith k t close (Looks (bare_look look)) (reply_view reply))
+unfolding reply_to FitsAsked
+look_replied (Ok reply) k t close look a site e same h =
+    let s = serves_look k.site k.history t look a e in
+    record { content = None; fits = s.fits; is_reply = ap reply_view (h ∙ ap (λ (x : Site). reply_for x a None close) same) ∙ s.view k.site close }
 look_replied (Err x) k t close look a site e same h = tt
 
 pub ask_kept : {E : Type 0} (r : Result Reply E) (k now : Kept) (t : ℕ) (ask : Ask) (a : Answer) → bare_answer a ≡ served_answer k.site k.history t ask → now ≡ kept_after k t (bare_ask ask) (bare_answer a)
@@ -241,24 +294,39 @@ unfolding kept_then
 ask_kept (Ok reply) k now t ask a e h = h ∙ ap (kept_after k t (bare_ask ask)) (e ∙ sym (served_bare k.site k.history t ask))
 ask_kept (Err x) k now t ask a e h = tt
 
-pub content_not_kept : (k : Kept) (t : ℕ) (close : Bool) (ask : Ask) (content : Option (List ℕ)) → (reply_to k t close (Asks ask None) ≡ reply_to k t close (Asks ask content)) × (kept_then k t (Asks ask None) ≡ kept_then k t (Asks ask content))
-unfolding reply_to kept_then
-content_not_kept k t close ask content = (refl, refl)
+-- what is sent along with an ask changes neither its reply nor what is kept
+pub sent_replied : (k : Kept) (t : ℕ) (close : Bool) (ask : Ask) (sent : Option (List ℕ)) (v : ReplyView) → RepliesWith k t close (Asks ask None) v → RepliesWith k t close (Asks ask sent) v
+unfolding reply_to FitsAsked
+sent_replied k t close ask sent v r = record { content = r.content; fits = r.fits; is_reply = r.is_reply }
+
+pub sent_kept : (k : Kept) (t : ℕ) (ask : Ask) (sent : Option (List ℕ)) → kept_then k t (Asks ask None) ≡ kept_then k t (Asks ask sent)
+unfolding kept_then
+sent_kept k t ask sent = refl
 
 pub looks_keep : (k : Kept) (t : ℕ) (look : Look) → k ≡ kept_then k t (Looks look)
 unfolding kept_then
 looks_keep k t look = refl
 
-pub replied : (k : Kept) (t : ℕ) (close : Bool) (reply : Reply) → (reply ≡ reply_to k t close (Replies reply)) × (k ≡ kept_then k t (Replies reply))
-unfolding reply_to kept_then
-replied k t close reply = (refl, refl)
+pub replied : (k : Kept) (t : ℕ) (close : Bool) (reply : Reply) → RepliesWith k t close (Replies reply) (reply_view reply)
+unfolding reply_to FitsAsked
+replied k t close reply = record { content = None; fits = refl; is_reply = refl }
 
-pub request_text : (text : List ℕ) (k : Kept) (t : ℕ) (request : Request) (reply : Reply) (routed : Asked) (site : Site) → text ≡ reply_text reply → reply ≡ reply_to k t request.close routed → routed ≡ asked site request → site ≡ k.site
-    → text ≡ request_reply k t (request_view request)
-unfolding request_reply
-request_text text k t request reply routed site e f g h = e ∙ ap reply_text (f ∙ ap (reply_to k t request.close) (g ∙ ap (λ (s : Site). asked s request) h))
+pub replied_keeps : (k : Kept) (t : ℕ) (reply : Reply) → k ≡ kept_then k t (Replies reply)
+unfolding kept_then
+replied_keeps k t reply = refl
 
-pub request_kept : (k now : Kept) (t : ℕ) (request : Request) (routed : Asked) (site : Site) → now ≡ kept_then k t routed → routed ≡ asked site request → site ≡ k.site → now ≡ request_keeps k t (request_view request)
+pub request_text : (text : List ℕ) (k : Kept) (t : ℕ) (request : Request) (reply : Reply) (routed : Asked) (site : Site) → text ≡ reply_text reply → RepliesWith k t request.close routed (reply_view reply)
+    → routed ≡ asked site request → site ≡ k.site → IsReplyTo k t request text
+unfolding request_reply FitsRequest
+request_text text k t request reply routed site e r g h =
+    let same = g ∙ ap (λ (s : Site). asked s request) h in
+    record {
+      content = r.content;
+      fits = subst (λ x. FitsAsked k t x r.content) same r.fits;
+      is_text = e ∙ ap view_text (r.is_reply ∙ ap (λ x. reply_to k t request.close x r.content) same);
+    }
+
+pub request_kept : (k now : Kept) (t : ℕ) (request : Request) (routed : Asked) (site : Site) → now ≡ kept_then k t routed → routed ≡ asked site request → site ≡ k.site → now ≡ request_keeps k t request
 unfolding request_keeps
 request_kept k now t request routed site f g h = f ∙ ap (kept_then k t) (g ∙ ap (λ (s : Site). asked s request) h)
 

@@ -10,30 +10,31 @@ use Rattle.cta_site.specs.declared.check.SiteError.TheVariants as error
 use Rattle.cta_site.specs.declared.site.Site.{Site}
 use Rattle.cta_site.specs.Bare.{bare_site}
 use Rattle.cta_site.specs.Faults.{first_fault, IsCauseOf}
-use Rattle.cta_site.specs.Numbering.{IsNumberedFrom, Rearranges}
+use Rattle.cta_site.specs.Numbering.{IsNumberedFrom}
 use Rattle.site_json.specs.File.{file_fault, file_of, fault_within, site_of}
 use Rattle.cta_model.specs.Kept.{Kept}
+use Rattle.replay.specs.Seen.{SourceView}
 use Rattle.replay.specs.SiteFile.{ArchiveMade, IsSiteOf, NoArchive, NoSite, SiteRead, site_fault, site_limit}
 use Rattle.replay.specs.declared.status.Status.{Status}
 use Rattle.replay.specs.declared.status.Status.TheVariants.{Usage, Site as SiteRule, Script, ReadFault, WriteFault, NoMemory, TooLong, ListenFault, NotBuilt}
 use Rattle.replay.specs.declared.status.Status.TheVariants as status
 
-no_site : (s : Status) (bytes : List ℕ) (left left' : Option (List ℕ)) (f f' : ℕ) → Consumes left left' bytes → IsAtEnd left' → NoArchive s bytes → NoSite s left left' f f'
-no_site (SiteRule rule item) bytes left left' f f' took at h = (bytes, took, inr at, h)
-no_site NoMemory bytes left left' f f' took at h = tt
-no_site status.Ok bytes left left' f f' took at h = h
-no_site Usage bytes left left' f f' took at h = h
-no_site (Script offset) bytes left left' f f' took at h = h
-no_site ReadFault bytes left left' f f' took at h = absurd h
-no_site WriteFault bytes left left' f f' took at h = h
-no_site TooLong bytes left left' f f' took at h = h
-no_site ListenFault bytes left left' f f' took at h = h
-no_site (NotBuilt offset) bytes left left' f f' took at h = h
+no_site : (s : Status) (bytes : List ℕ) (a b : SourceView) → Consumes a.left b.left bytes → IsAtEnd b.left → NoArchive s bytes → NoSite s a b
+no_site (SiteRule rule item) bytes a b took at h = (bytes, took, inr at, h)
+no_site NoMemory bytes a b took at h = tt
+no_site status.Ok bytes a b took at h = h
+no_site Usage bytes a b took at h = h
+no_site (Script offset) bytes a b took at h = h
+no_site ReadFault bytes a b took at h = absurd h
+no_site WriteFault bytes a b took at h = h
+no_site TooLong bytes a b took at h = h
+no_site ListenFault bytes a b took at h = h
+no_site (NotBuilt offset) bytes a b took at h = h
 
 -- an archive made of the whole site file
-pub site_read : (r : Result Kept Status) (bytes : List ℕ) (left left' : Option (List ℕ)) (f f' : ℕ) → Consumes left left' bytes → IsAtEnd left' → ArchiveMade r bytes → SiteRead r left left' f f'
-site_read (Ok archive) bytes left left' f f' took at h = ((bytes, took, at, h.0), h.1)
-site_read (Err s) bytes left left' f f' took at h = no_site s bytes left left' f f' took at h
+pub site_read : (r : Result Kept Status) (bytes : List ℕ) (a b : SourceView) → Consumes a.left b.left bytes → IsAtEnd b.left → ArchiveMade r bytes → SiteRead r a b
+site_read (Ok archive) bytes a b took at h = ((bytes, took, at, h.0), h.1)
+site_read (Err s) bytes a b took at h = no_site s bytes a b took at h
 
 -- too many bytes break rule 1
 pub too_long : (bytes : List ℕ) → site_limit + 1 ≤ length bytes → site_fault bytes ≡ Some (1, 0)
@@ -55,31 +56,10 @@ not_long bytes kept =
     ]
 
 -- what a site that was read breaks, and how it is numbered, by what its file tells
-pub numbered_told : (s file valid : Site) → bare_site s ≡ file → IsNumberedFrom s valid → IsNumberedFrom file valid
-numbered_told s file valid told n = subst (λ f. IsNumberedFrom f valid) told (record { same = bare_same n.same; in_order = n.in_order; bare = n.bare })
-  where
-    bare_same : Rearranges s valid → Rearranges (bare_site s) valid
-    bare_same r = record {
-      version = r.version;
-      sitename = r.sitename;
-      endpoint = r.endpoint;
-      default_policy = r.default_policy;
-      repack_policy = r.repack_policy;
-      limits = r.limits;
-      vos = r.vos;
-      classes = r.classes;
-      pools = r.pools;
-      routes = r.routes;
-      policies = r.policies;
-      rules = r.rules;
-      libraries = r.libraries;
-      tapes = r.tapes;
-      drives = r.drives;
-      directories = r.directories;
-      failures = r.failures;
-    }
+pub numbered_told : (s file valid : Site) → bare_site s ≡ file → IsNumberedFrom (bare_site s) valid → IsNumberedFrom file valid
+numbered_told s file valid told n = subst (λ f. IsNumberedFrom f valid) told n
 
-pub site_checked : (bytes : List ℕ) (s valid : Site) → file_fault bytes ≡ None → bare_site s ≡ site_of bytes → first_fault s ≡ None → IsNumberedFrom s valid → IsSiteOf bytes valid
+pub site_checked : (bytes : List ℕ) (s valid : Site) → file_fault bytes ≡ None → bare_site s ≡ site_of bytes → first_fault s ≡ None → IsNumberedFrom (bare_site s) valid → IsSiteOf bytes valid
 site_checked bytes s valid read told kept numbered =
     let rest : first_fault (site_of bytes) ≡ None = sym (ap first_fault told) ∙ kept in
     record { kept = rw (read, rest) refl; numbered = numbered_told s (site_of bytes) valid told numbered }
@@ -96,7 +76,7 @@ site_error (error.Fault rule item) bytes s read told cause =
 site_error error.NoMemory bytes s read told cause = tt
 
 -- what the check of a site that was read says of its file
-pub checked_told : (bytes : List ℕ) (s : Site) (r : Result Site SiteError) → file_fault bytes ≡ None → bare_site s ≡ site_of bytes → MatchResult r (λ valid. (first_fault s ≡ None) × IsNumberedFrom s valid) (λ e. IsCauseOf e (first_fault s)) → MatchResult r (IsSiteOf bytes) (λ e. IsCauseOf e (site_fault bytes))
+pub checked_told : (bytes : List ℕ) (s : Site) (r : Result Site SiteError) → file_fault bytes ≡ None → bare_site s ≡ site_of bytes → MatchResult r (λ valid. (first_fault s ≡ None) × IsNumberedFrom (bare_site s) valid) (λ e. IsCauseOf e (first_fault s)) → MatchResult r (IsSiteOf bytes) (λ e. IsCauseOf e (site_fault bytes))
 checked_told bytes s (Ok valid) read told h = site_checked bytes s valid read told h.0 h.1
 checked_told bytes s (Err e) read told h = site_error e bytes s read told h
 

@@ -4,7 +4,7 @@ use Rattle.std.specs.Fmt.{decimal}
 use Rattle.std.proofs.lemmas.Fmt.{decimal_injective, length-decimal-le}
 use Rattle.std.proofs.lemmas.List.{append_cancel_left}
 use Rattle.cta_site.specs.declared.site.Site.{Site}
-use Rattle.replay.specs.Bytes.{Without}
+use Rattle.cta_site.specs.Bytes.{Without}
 use Rattle.replay.specs.Line.{text, http_text, http_words, then_word, IsHttp}
 use Rattle.replay.specs.declared.line.Line.{Line}
 use Rattle.replay.specs.declared.line.Line.TheVariants.{Http, Step, End}

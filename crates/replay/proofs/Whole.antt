@@ -5,12 +5,13 @@ use Rattle.outside.specs.Causes.{Rose}
 use Rattle.cta_site.specs.Faults.{first_fault}
 use Rattle.cta_site.specs.Numbering.{IsNumberedFrom}
 use Rattle.cta_site.specs.declared.site.Site.{Site}
-use Rattle.replay.specs.Outcome.{IsReadWhole}
+use Rattle.replay.specs.Seen.{SourceView}
+use Rattle.replay.specs.Outcome.{IsReadWhole, ReachesEnd}
 use Rattle.replay.specs.SiteFile.{IsSiteOf, NoSite, site_fault}
 use Rattle.replay.specs.Top.{Handed, Runs, RunsWhole}
 use Rattle.replay.specs.declared.status.Status.{Status}
 use Rattle.replay.specs.declared.status.Status.TheVariants.{Ok, Usage, Site as SiteRule, Script, ReadFault, WriteFault, NoMemory, TooLong, ListenFault, NotBuilt}
-use Rattle.replay.proofs.Completing.{Completes-from_replays}
+use Rattle.replay.proofs.Completing.{RunsToEnd-from_replays}
 use Rattle.replay.proofs.Sites.{not_long, one_site}
 
 -- what was taken of the site file is a front of it, and all of it at its end
@@ -21,33 +22,34 @@ taken_site site bytes (Some xs) (Some ys) e t =
     let same : xs ≡ site = cc in
     (omega (arith, ap length t, ap length same, length-append bytes ys), λ at. sym (append-nil bytes) ∙ ap (λ l. bytes ++ l) (sym at) ∙ sym t ∙ same)
 
-by_site : (status : Status) (file : List ℕ) (left left' : Option (List ℕ)) (f f' : ℕ) → left ≡ Some file → site_fault file ≡ None → (Rose f f' → ⊥) → NoSite status left left' f f' → status ≡ NoMemory
-by_site Ok file left left' f f' e kept calm h = absurd h
-by_site Usage file left left' f f' e kept calm h = absurd h
-by_site (SiteRule rule item) file left left' f f' e kept calm (bytes, t, inl long, broken) =
-    let s = taken_site file bytes left left' e t in
+by_site : (status : Status) (file : List ℕ) (a b : SourceView) → a.left ≡ Some file → site_fault file ≡ None → (Rose a.faults b.faults → ⊥) → NoSite status a b → status ≡ NoMemory
+by_site Ok file a b e kept calm h = absurd h
+by_site Usage file a b e kept calm h = absurd h
+by_site (SiteRule rule item) file a b e kept calm (bytes, t, inl long, broken) =
+    let s = taken_site file bytes a.left b.left e t in
     let fits = not_long file kept in
     absurd (omega (arith, long, s.0, fits))
-by_site (SiteRule rule item) file left left' f f' e kept calm (bytes, t, inr end, broken) =
-    let s = taken_site file bytes left left' e t in
+by_site (SiteRule rule item) file a b e kept calm (bytes, t, inr end, broken) =
+    let s = taken_site file bytes a.left b.left e t in
     let same : site_fault bytes ≡ site_fault file = ap site_fault (s.1 end) in
     absurd (cc)
-by_site (Script offset) file left left' f f' e kept calm h = absurd h
-by_site ReadFault file left left' f f' e kept calm h = absurd (calm h)
-by_site WriteFault file left left' f f' e kept calm h = absurd h
-by_site NoMemory file left left' f f' e kept calm h = refl
-by_site TooLong file left left' f f' e kept calm h = absurd h
-by_site ListenFault file left left' f f' e kept calm h = absurd h
-by_site (NotBuilt offset) file left left' f f' e kept calm h = absurd h
+by_site (Script offset) file a b e kept calm h = absurd h
+by_site ReadFault file a b e kept calm h = absurd (calm h.3)
+by_site WriteFault file a b e kept calm h = absurd h
+by_site NoMemory file a b e kept calm h = refl
+by_site TooLong file a b e kept calm h = absurd h
+by_site ListenFault file a b e kept calm h = absurd h
+by_site (NotBuilt offset) file a b e kept calm h = absurd h
 
 pub RunsWhole-from_runs : ((file a b : Site) → first_fault file ≡ None → IsNumberedFrom file a → IsNumberedFrom file b → a ≡ b) → (status : Status) (words : List (List ℕ)) (a b : Handed) → Runs status words a b → RunsWhole status words a b
-RunsWhole-from_runs one status words a b (inl (inl p, same)) = λ bytes site feeds rest form told is reaches no_site no_read no_write. absurd (p.0 form)
-RunsWhole-from_runs one status words a b (inl (inr wanted, same)) = λ bytes site feeds rest form told is reaches no_site no_read no_write. inr wanted
-RunsWhole-from_runs one status words a b (inr (form', inl p)) = λ bytes site feeds rest form told is reaches no_site no_read no_write.
-    inr (by_site status bytes a.site_left b.site_left a.site_faults b.site_faults told is.kept no_site p.0)
-RunsWhole-from_runs one status words a b (inr (form', inr (site', reads, replays))) = λ bytes site feeds rest form told is reaches no_site no_read no_write.
-    let s = taken_site bytes reads.0 a.site_left b.site_left told reads.1 in
+RunsWhole-from_runs one status words a b (inl (inl p, same)) = λ bytes site records rest form told is reaches no_site no_read no_write. absurd (p.0 form)
+RunsWhole-from_runs one status words a b (inl (inr wanted, same)) = λ bytes site records rest form told is reaches no_site no_read no_write. inr wanted
+RunsWhole-from_runs one status words a b (inr (form', inl p)) = λ bytes site records rest form told is reaches no_site no_read no_write.
+    inr (by_site status bytes a.site b.site told is.kept no_site p.0)
+RunsWhole-from_runs one status words a b (inr (form', inr (site', reads, replays))) = λ bytes site records rest form told is reaches no_site no_read no_write.
+    let s = taken_site bytes reads.0 a.site.left b.site.left told reads.1 in
     let is' = subst (λ x. IsSiteOf x site') (s.1 reads.2) reads.3 in
     let same = one_site bytes site' site one is' is in
-    subst (λ x. ((status ≡ Ok) × IsReadWhole x feeds rest b.left a.written b.written) ⊎ (status ≡ NoMemory)) same
-    (Completes-from_replays status site' a.left b.left a.read_faults b.read_faults a.written b.written a.write_faults b.write_faults replays feeds rest reaches no_read no_write)
+    let reaches' = subst (λ x. ReachesEnd x a.script.left records rest) (sym same) reaches in
+    subst (λ x. ((status ≡ Ok) × IsReadWhole x records rest b.script a.out b.out) ⊎ (status ≡ NoMemory)) same
+    (RunsToEnd-from_replays status site' a.script b.script a.out b.out replays records rest reaches' no_read no_write)

@@ -1,99 +1,175 @@
--- What is written for events, one after the other.
-use Rattle.std.proofs.Common.{◌≡◌, ℕ, ◌≤◌, List, [], ◌∷◌, ◌++◌, length, Option, Result, Ok, Err, refl, sym, ap, ◌∙◌, subst, arith, append-nil, append_assoc}
-use Rattle.std.specs.List.{flat_map}
+-- What is written for what happens, one after the other.
+use Rattle.std.proofs.Common.{◌≡◌, ℕ, ◌≤◌, List, [], ◌∷◌, ◌++◌, length, Option, None, Result, Ok, Err, OnOk, refl, sym, ap, ◌∙◌, subst, arith, append-nil, append_assoc}
 use Rattle.std.specs.Prelude.{reverse}
 use Rattle.std.specs.Io.KnownBytes.{Appends}
 use Rattle.std.proofs.KnownBytes.{Appends-trans, Appends-nil}
 use Rattle.std.proofs.lemmas.List.{map-append, reverse-append, reverse-reverse}
-use Rattle.std.proofs.lemmas.List.Concat.{flat_map-append}
 use Rattle.outside.specs.Streams.{AppendsFront}
 use Rattle.cta_model.specs.Kept.{Kept}
 use Rattle.conn.specs.Cut.{Event}
 use Rattle.conn.specs.Stands.{given_by, next_events}
-use Rattle.conn.specs.declared.request.Next.{Next}
-use Rattle.links.specs.Run.{Told}
-use Rattle.links.specs.Replies.{Reply, after, frame, kept_behind, replies_from, text_for}
-use Rattle.replay.specs.Output.{by_archive, output_on}
-use Rattle.replay.specs.Outcome.{Answered, Framed, IsUnwritten, WritesFrames, NotFramed, told_on}
+use Rattle.conn.specs.declared.next.Next.{Next}
+use Rattle.replay.specs.Seen.{SinkView}
+use Rattle.replay.specs.Run.{Exchange, Happening, Answered, event_of, events_of, bare_exchanges, answered_on}
+use Rattle.replay.specs.Output.{HaveContents, FitsEvent, after, event_keeps, event_text, frame, kept_behind, output_on, written_for}
+use Rattle.replay.specs.Outcome.{Wrote, WritesFirst, WritesFront, IsUnwritten, IsWritten, IsFramed, AnswersEvents}
 use Rattle.replay.specs.declared.output.Unwritten.{Unwritten}
 use Rattle.replay.specs.declared.output.Unwritten.TheVariants.{Broken, Wanting}
 
--- the reply to an event
-abbrev pub reply_at : Kept → Told → Reply
-reply_at k t = record { link = t.link; text = text_for by_archive k t.moment t.event }
+pub output_on-append : (k : Kept) (xs ys : List Happening) → output_on k (xs ++ ys) ≡ output_on k xs ++ output_on (after k xs) ys
+output_on-append k [] ys = refl
+output_on-append k (x ∷ xs) ys =
+    ap (λ l. written_for k x ++ l) (output_on-append (kept_behind k x) xs ys)
+    ∙ sym (append_assoc (written_for k x) (output_on (kept_behind k x) xs) (output_on (after (kept_behind k x) xs) ys))
 
-pub replies_from-append : (k : Kept) (xs ys : List Told) → replies_from by_archive k (xs ++ ys) ≡ replies_from by_archive k xs ++ replies_from by_archive (after by_archive k xs) ys
-replies_from-append k [] ys = refl
-replies_from-append k (x ∷ xs) ys = ap (λ l. reply_at k x ∷ l) (replies_from-append (kept_behind by_archive k x.moment x.event) xs ys)
-
-pub output_on-append : (k : Kept) (xs ys : List Told) → output_on k (xs ++ ys) ≡ output_on k xs ++ output_on (after by_archive k xs) ys
-output_on-append k xs ys =
-    ap (flat_map frame) (replies_from-append k xs ys)
-    ∙ flat_map-append frame (replies_from by_archive k xs) (replies_from by_archive (after by_archive k xs) ys)
-
-pub after-append : (k : Kept) (xs ys : List Told) → after by_archive k (xs ++ ys) ≡ after by_archive (after by_archive k xs) ys
+pub after-append : (k : Kept) (xs ys : List Happening) → after k (xs ++ ys) ≡ after (after k xs) ys
 after-append k [] ys = refl
-after-append k (x ∷ xs) ys = after-append (kept_behind by_archive k x.moment x.event) xs ys
+after-append k (x ∷ xs) ys = after-append (kept_behind k x) xs ys
 
-pub output_on-behind : (k n : Kept) (xs ys : List Told) → n ≡ after by_archive k xs → output_on k xs ++ output_on n ys ≡ output_on k (xs ++ ys)
+contents-append : (k : Kept) (xs ys : List Happening) → HaveContents k xs → HaveContents (after k xs) ys → HaveContents k (xs ++ ys)
+contents-append k [] ys p q = q
+contents-append k (x ∷ xs) ys p q = (p.0, contents-append (kept_behind k x) xs ys p.1 q)
+
+pub output_on-behind : (k n : Kept) (xs ys : List Happening) → n ≡ after k xs → output_on k xs ++ output_on n ys ≡ output_on k (xs ++ ys)
 output_on-behind k n xs ys e = ap (λ j. output_on k xs ++ output_on j ys) e ∙ sym (output_on-append k xs ys)
 
-pub told_on-append : (link moment : ℕ) (xs ys : List Event) → told_on link moment (xs ++ ys) ≡ told_on link moment xs ++ told_on link moment ys
-told_on-append link moment xs ys = map-append _ xs ys
+contents-behind : (k n : Kept) (xs ys : List Happening) → n ≡ after k xs → HaveContents k xs → HaveContents n ys → HaveContents k (xs ++ ys)
+contents-behind k n xs ys e p q = contents-append k xs ys p (subst (λ j. HaveContents j ys) e q)
+
+pub after-behind : (k n now : Kept) (xs ys : List Happening) → n ≡ after k xs → now ≡ after n ys → now ≡ after k (xs ++ ys)
+after-behind k n now xs ys e f = f ∙ ap (λ j. after j ys) e ∙ sym (after-append k xs ys)
+
+pub answered_on-append : (link moment : ℕ) (xs ys : List Exchange) → answered_on link moment (xs ++ ys) ≡ answered_on link moment xs ++ answered_on link moment ys
+answered_on-append link moment xs ys = map-append _ xs ys
+
+pub events_of-append : (xs ys : List Exchange) → events_of (xs ++ ys) ≡ events_of xs ++ events_of ys
+events_of-append xs ys = map-append event_of xs ys
+
+pub events_of-bare : (events : List Event) → events_of (bare_exchanges events) ≡ events
+events_of-bare [] = refl
+events_of-bare (e ∷ events) = ap (λ es. e ∷ es) (events_of-bare events)
+
+-- ---- what was written, and then more
+
+pub wrote_none : (k : Kept) (a : SinkView) → Wrote k a a []
+wrote_none k a = record { contents = tt; bytes = Appends-nil a.written }
+
+pub wrote_behind : (k n : Kept) (a m b : SinkView) (xs ys : List Happening) → n ≡ after k xs → Wrote k a m xs → Wrote n m b ys → Wrote k a b (xs ++ ys)
+wrote_behind k n a m b xs ys e p q = record {
+  contents = contents-behind k n xs ys e p.contents q.contents;
+  bytes = subst (λ bs. Appends a.written b.written bs) (output_on-behind k n xs ys e)
+      (Appends-trans a.written m.written b.written (output_on k xs) (output_on n ys) p.bytes q.bytes);
+}
+
+-- the same, where nothing changed in the counts of a sink that tells the same
+pub wrote_seen : (k : Kept) (a a' b : SinkView) (xs : List Happening) → a.written ≡ a'.written → Wrote k a b xs → Wrote k a' b xs
+wrote_seen k a a' b xs e p = record { contents = p.contents; bytes = subst (λ w. Appends w b.written (output_on k xs)) e p.bytes }
 
 -- ---- what was written, and then what was not
 
-pub AppendsFront-after : (a m b : Option (List ℕ)) (xs ys : List ℕ) → Appends a m xs → AppendsFront m b ys → AppendsFront a b (xs ++ ys)
+AppendsFront-after : (a m b : Option (List ℕ)) (xs ys : List ℕ) → Appends a m xs → AppendsFront m b ys → AppendsFront a b (xs ++ ys)
 AppendsFront-after a m b xs ys p q =
     (xs ++ q.0, Appends-trans a m b xs q.0 p q.1, (q.2.0, ap (λ l. xs ++ l) q.2.1 ∙ sym (append_assoc xs q.0 q.2.0)))
 
-AppendsFront-before : (a b : Option (List ℕ)) (xs ys : List ℕ) → AppendsFront a b xs → AppendsFront a b (xs ++ ys)
-AppendsFront-before a b xs ys p = (p.0, p.1, (p.2.0 ++ ys, ap (λ l. l ++ ys) p.2.1 ∙ append_assoc p.0 p.2.0 ys))
+pub first_behind : (k n : Kept) (a m b : SinkView) (xs ys : List Happening) → n ≡ after k xs → Wrote k a m xs → WritesFirst n m b ys → WritesFirst k a b (xs ++ ys)
+first_behind k n a m b xs ys e p q = record {
+  first = xs ++ q.first;
+  later = q.later;
+  parts = ap (λ l. xs ++ l) q.parts ∙ sym (append_assoc xs q.first q.later);
+  wrote = wrote_behind k n a m b xs q.first e p q.wrote;
+}
 
-pub frames_behind : (k n : Kept) (a m b : Option (List ℕ)) (xs ys : List Told) → n ≡ after by_archive k xs → Appends a m (output_on k xs) → WritesFrames n m b ys → WritesFrames k a b (xs ++ ys)
-frames_behind k n a m b xs ys e p (front, back, split, wrote) =
-    let first = replies_from by_archive k xs in (
-      first ++ front,
-      back,
-      replies_from-append k xs ys ∙ ap (λ j. first ++ replies_from by_archive j ys) (sym e) ∙ ap (λ l. first ++ l) split ∙ sym (append_assoc first front back),
-      subst (λ bs. Appends a b bs) (sym (flat_map-append frame first front)) (Appends-trans a m b (output_on k xs) (flat_map frame front) p wrote),
-    )
+pub front_behind : (k n : Kept) (a m b : SinkView) (xs ys : List Happening) → n ≡ after k xs → Wrote k a m xs → WritesFront n m b ys → WritesFront k a b (xs ++ ys)
+front_behind k n a m b xs ys e p q = record {
+  first = xs ++ q.first;
+  later = q.later;
+  parts = ap (λ l. xs ++ l) q.parts ∙ sym (append_assoc xs q.first q.later);
+  contents = contents-behind k n xs q.first e p.contents q.contents;
+  bytes = subst (λ bs. AppendsFront a.written b.written bs) (output_on-behind k n xs q.first e)
+      (AppendsFront-after a.written m.written b.written (output_on k xs) (output_on n q.first) p.bytes q.bytes);
+}
 
--- behind events whose replies were written
-pub unwritten_behind : (why : Unwritten) (k n : Kept) (a m b : Option (List ℕ)) (f g h : ℕ) (xs ys : List Told) → n ≡ after by_archive k xs → Appends a m (output_on k xs) → f ≤ g
-    → IsUnwritten why n m b g h ys → IsUnwritten why k a b f h (xs ++ ys)
-unwritten_behind Broken k n a m b f g h xs ys e p le u =
-    (subst (λ bs. AppendsFront a b bs) (output_on-behind k n xs ys e) (AppendsFront-after a m b (output_on k xs) (output_on n ys) p u.0), omega (arith, u.1))
-unwritten_behind Wanting k n a m b f g h xs ys e p le u = frames_behind k n a m b xs ys e p u
+-- behind what was written
+pub unwritten_behind : (why : Unwritten) (k n : Kept) (a m b : SinkView) (xs ys : List Happening) → n ≡ after k xs → Wrote k a m xs → a.faults ≤ m.faults
+    → IsUnwritten why n m b ys → IsUnwritten why k a b (xs ++ ys)
+unwritten_behind Broken k n a m b xs ys e p le u = (front_behind k n a m b xs ys e p u.0, omega (arith, u.1))
+unwritten_behind Wanting k n a m b xs ys e p le u = first_behind k n a m b xs ys e p u
 
--- before events that were to come
-pub unwritten_before : (why : Unwritten) (k : Kept) (a b : Option (List ℕ)) (f h : ℕ) (xs ys : List Told) → IsUnwritten why k a b f h xs → IsUnwritten why k a b f h (xs ++ ys)
-unwritten_before Broken k a b f h xs ys u =
-    (subst (λ bs. AppendsFront a b bs) (sym (output_on-append k xs ys)) (AppendsFront-before a b (output_on k xs) (output_on (after by_archive k xs) ys) u.0), u.1)
-unwritten_before Wanting k a b f h xs ys (front, back, split, wrote) =
-    let more = replies_from by_archive (after by_archive k xs) ys in
-    (front, back ++ more, replies_from-append k xs ys ∙ ap (λ l. l ++ more) split ∙ append_assoc front back more, wrote)
+-- before what was to come
+pub unwritten_before : (why : Unwritten) (k : Kept) (a b : SinkView) (xs ys : List Happening) → IsUnwritten why k a b xs → IsUnwritten why k a b (xs ++ ys)
+unwritten_before Broken k a b xs ys (u, rose) = (
+  record {
+    first = u.first;
+    later = u.later ++ ys;
+    parts = ap (λ l. l ++ ys) u.parts ∙ append_assoc u.first u.later ys;
+    contents = u.contents;
+    bytes = u.bytes;
+  },
+  rose,
+)
+unwritten_before Wanting k a b xs ys u = record {
+  first = u.first;
+  later = u.later ++ ys;
+  parts = ap (λ l. l ++ ys) u.parts ∙ append_assoc u.first u.later ys;
+  wrote = u.wrote;
+}
 
 -- nothing was written yet
-pub frames_none : (k : Kept) (a : Option (List ℕ)) (told : List Told) → WritesFrames k a a told
-frames_none k a told = ([], replies_from by_archive k told, refl, Appends-nil a)
+pub first_none : (k : Kept) (a : SinkView) (happened : List Happening) → WritesFirst k a a happened
+first_none k a happened = record { first = []; later = happened; parts = refl; wrote = wrote_none k a }
 
 -- all was written
-pub frames_all : (k : Kept) (a b : Option (List ℕ)) (told : List Told) → Appends a b (output_on k told) → WritesFrames k a b told
-frames_all k a b told p = (replies_from by_archive k told, [], sym (append-nil (replies_from by_archive k told)), p)
+pub first_all : (k : Kept) (a b : SinkView) (happened : List Happening) → Wrote k a b happened → WritesFirst k a b happened
+first_all k a b happened p = record { first = happened; later = []; parts = sym (append-nil happened); wrote = p }
 
--- ---- the one reply to an event
+-- ---- one event
 
-pub output_one : (k : Kept) (t : Told) → output_on k (t ∷ []) ≡ frame (reply_at k t)
-output_one k t = append-nil (frame (reply_at k t))
+abbrev one_exchange : Event → Option (List ℕ) → Exchange
+one_exchange event content = record { event = event; content = content }
 
-pub unframed : (why : Unwritten) (k : Kept) (a b : Option (List ℕ)) (f h : ℕ) (t : Told) → NotFramed why a b f h (reply_at k t) → IsUnwritten why k a b f h (t ∷ [])
-unframed Broken k a b f h t u = (subst (λ bs. AppendsFront a b bs) (sym (output_one k t)) u.0, u.1)
-unframed Wanting k a b f h t u = ([], reply_at k t ∷ [], refl, u)
+-- the reply to an event was framed, with a content that fits, or not and why
+pub answers_one : {T : Type 0} (r : Result T Unwritten) (k now : Kept) (link moment : ℕ) (event : Event) (content : Option (List ℕ)) (a b : SinkView) → FitsEvent k moment content event
+    → IsFramed r a b (record { link = link; text = event_text k moment content event }) → OnOk r (now ≡ event_keeps k moment event) → AnswersEvents r k now link moment (event ∷ []) a b
+answers_one (Ok u) k now link moment event content a b fits framed keeps = record {
+  exchanges = one_exchange event content ∷ [];
+  of_events = refl;
+  written = record { contents = (fits, tt); bytes = subst (λ bs. Appends a.written b.written bs) (sym (append-nil (frame (record { link = link; text = event_text k moment content event })))) framed };
+  keeps = keeps;
+}
+answers_one (Err Broken) k now link moment event content a b fits framed keeps = record {
+  exchanges = one_exchange event content ∷ [];
+  of_events = refl;
+  written = (
+    record {
+      first = Answered link moment (one_exchange event content) ∷ [];
+      later = [];
+      parts = refl;
+      contents = (fits, tt);
+      bytes = subst (λ bs. AppendsFront a.written b.written bs) (sym (append-nil (frame (record { link = link; text = event_text k moment content event })))) framed.0;
+    },
+    framed.1,
+  );
+  keeps = tt;
+}
+answers_one (Err Wanting) k now link moment event content a b fits framed keeps = record {
+  exchanges = one_exchange event content ∷ [];
+  of_events = refl;
+  written = record { first = []; later = Answered link moment (one_exchange event content) ∷ []; parts = refl; wrote = record { contents = tt; bytes = framed } };
+  keeps = tt;
+}
 
-pub answered_one : {T : Type 0} (r : Result T Unwritten) (k : Kept) (a b : Option (List ℕ)) (f h : ℕ) (t : Told) → Framed r a b f h (reply_at k t) → Answered r k a b f h (t ∷ [])
-answered_one (Ok x) k a b f h t p = subst (λ bs. Appends a b bs) (sym (output_one k t)) p
-answered_one (Err why) k a b f h t u = unframed why k a b f h t u
+-- no event was answered, and nothing written
+pub answers_none : {T : Type 0} (u : T) (k : Kept) (link moment : ℕ) (a : SinkView) → AnswersEvents {T = T} (Ok u) k k link moment [] a a
+answers_none u k link moment a = record { exchanges = []; of_events = refl; written = wrote_none k a; keeps = refl }
+
+-- the reply to an event was wanting before anything was written of it
+pub answers_wanting : {T : Type 0} (k now : Kept) (link moment : ℕ) (events : List Event) (a : SinkView) → AnswersEvents {T = T} (Err Wanting) k now link moment events a a
+answers_wanting k now link moment events a = record {
+  exchanges = bare_exchanges events;
+  of_events = events_of-bare events;
+  written = first_none k a (answered_on link moment (bare_exchanges events));
+  keeps = tt;
+}
 
 -- ---- events of a link, taken from the end of a list that was turned around
 
@@ -110,39 +186,47 @@ given_all all left e = ap given_by (sym (ap reverse e ∙ reverse-reverse all))
 -- ---- events of a link, answered one after the other
 
 -- of all events those before the rest were answered
-pub record AnsweredSoFar (k now : Kept) (link moment : ℕ) (all rest : List Event) (a b : Option (List ℕ)) : Type 0 where
-  pub done : List Event
-  pub parts : all ≡ done ++ rest
-  pub wrote : Appends a b (output_on k (told_on link moment done))
-  pub keeps : now ≡ after by_archive k (told_on link moment done)
+pub record AnsweredSoFar (k now : Kept) (link moment : ℕ) (all rest : List Event) (a b : SinkView) : Type 0 where
+  pub done : List Exchange
+  pub parts : all ≡ events_of done ++ rest
+  pub wrote : Wrote k a b (answered_on link moment done)
+  pub keeps : now ≡ after k (answered_on link moment done)
 
-pub none_so_far : (k : Kept) (link moment : ℕ) (all rest : List Event) (a : Option (List ℕ)) → all ≡ rest → AnsweredSoFar k k link moment all rest a a
-none_so_far k link moment all rest a e = record { done = []; parts = e; wrote = Appends-nil a; keeps = refl }
+pub none_so_far : (k : Kept) (link moment : ℕ) (all rest : List Event) (a : SinkView) → all ≡ rest → AnsweredSoFar k k link moment all rest a a
+none_so_far k link moment all rest a e = record { done = []; parts = e; wrote = wrote_none k a; keeps = refl }
 
-pub more_so_far : (k n now : Kept) (link moment : ℕ) (all es rest : List Event) (a m b : Option (List ℕ)) → AnsweredSoFar k n link moment all (es ++ rest) a m
-    → Appends m b (output_on n (told_on link moment es)) → now ≡ after by_archive n (told_on link moment es) → AnsweredSoFar k now link moment all rest a b
-more_so_far k n now link moment all es rest a m b s p e =
-    let done = told_on link moment s.done in
-    let more = told_on link moment es in
-    let told = told_on-append link moment s.done es in
-    record {
-      done = s.done ++ es;
-      parts = s.parts ∙ sym (append_assoc s.done es rest);
-      wrote = subst (λ bs. Appends a b bs) (output_on-behind k n done more s.keeps ∙ ap (output_on k) (sym told)) (Appends-trans a m b (output_on k done) (output_on n more) s.wrote p);
-      keeps = e ∙ ap (λ j. after by_archive j more) s.keeps ∙ sym (after-append k done more) ∙ ap (after by_archive k) (sym told);
-    }
+module _ {T : Type 0} (k n now : Kept) (link moment : ℕ) (all es rest : List Event) (a m b : SinkView) (s : AnsweredSoFar k n link moment all (es ++ rest) a m) where
+  pub more_so_far : (u : T) → AnswersEvents {T = T} (Ok u) n now link moment es m b → AnsweredSoFar k now link moment all rest a b
+  more_so_far u x =
+      let done = answered_on link moment s.done in
+      let more = answered_on link moment x.exchanges in
+      let joined = answered_on-append link moment s.done x.exchanges in
+      record {
+        done = s.done ++ x.exchanges;
+        parts = s.parts ∙ ap (λ l. events_of s.done ++ (l ++ rest)) (sym x.of_events) ∙ sym (append_assoc (events_of s.done) (events_of x.exchanges) rest)
+            ∙ ap (λ l. l ++ rest) (sym (events_of-append s.done x.exchanges));
+        wrote = subst (Wrote k a b) (sym joined) (wrote_behind k n a m b done more s.keeps s.wrote x.written);
+        keeps = after-behind k n now done more s.keeps x.keeps ∙ ap (after k) (sym joined);
+      }
 
-pub all_wrote : (k now : Kept) (link moment : ℕ) (all : List Event) (a b : Option (List ℕ)) → AnsweredSoFar k now link moment all [] a b → Appends a b (output_on k (told_on link moment all))
-all_wrote k now link moment all a b s = subst (λ es. Appends a b (output_on k (told_on link moment es))) (sym (s.parts ∙ append-nil s.done)) s.wrote
+  -- where the replies to the next ones were not written
+  pub not_so_far : (why : Unwritten) → a.faults ≤ m.faults → AnswersEvents {T = T} (Err why) n now link moment es m b → AnswersEvents {T = T} (Err why) k now link moment all a b
+  not_so_far why le x =
+      let unread = bare_exchanges rest in
+      let done = answered_on link moment s.done in
+      let more = answered_on link moment x.exchanges in
+      let late = answered_on link moment unread in
+      let joined : answered_on link moment (s.done ++ (x.exchanges ++ unread)) ≡ done ++ (more ++ late) =
+      answered_on-append link moment s.done (x.exchanges ++ unread) ∙ ap (λ l. done ++ l) (answered_on-append link moment x.exchanges unread) in
+      let events : events_of (x.exchanges ++ unread) ≡ es ++ rest =
+      events_of-append x.exchanges unread ∙ ap (λ l. l ++ events_of unread) x.of_events ∙ ap (λ l. es ++ l) (events_of-bare rest) in
+      record {
+        exchanges = s.done ++ (x.exchanges ++ unread);
+        of_events = events_of-append s.done (x.exchanges ++ unread) ∙ ap (λ l. events_of s.done ++ l) events ∙ sym s.parts;
+        written = subst (IsUnwritten why k a b) (sym joined)
+            (unwritten_behind why k n a m b done (more ++ late) s.keeps s.wrote le (unwritten_before why n m b more late x.written));
+        keeps = tt;
+      }
 
-pub all_keeps : (k now : Kept) (link moment : ℕ) (all : List Event) (a b : Option (List ℕ)) → AnsweredSoFar k now link moment all [] a b → now ≡ after by_archive k (told_on link moment all)
-all_keeps k now link moment all a b s = s.keeps ∙ ap (λ es. after by_archive k (told_on link moment es)) (sym (s.parts ∙ append-nil s.done))
-
--- where the replies to the next ones were not written
-pub not_so_far : (why : Unwritten) (k n : Kept) (link moment : ℕ) (all es rest : List Event) (a m b : Option (List ℕ)) (f g h : ℕ) → AnsweredSoFar k n link moment all (es ++ rest) a m → f ≤ g
-    → IsUnwritten why n m b g h (told_on link moment es) → IsUnwritten why k a b f h (told_on link moment all)
-not_so_far why k n link moment all es rest a m b f g h s le u =
-    let done = told_on link moment s.done in
-    let told = told_on-append link moment s.done (es ++ rest) ∙ ap (λ l. done ++ l) (told_on-append link moment es rest) in
-    subst (λ l. IsUnwritten why k a b f h l) (sym (ap (told_on link moment) s.parts ∙ told))
-    (unwritten_behind why k n a m b f g h done (told_on link moment es ++ told_on link moment rest) s.keeps s.wrote le (unwritten_before why n m b g h (told_on link moment es) (told_on link moment rest) u))
+pub all_answered : {T : Type 0} (u : T) (k now : Kept) (link moment : ℕ) (all : List Event) (a b : SinkView) → AnsweredSoFar k now link moment all [] a b → AnswersEvents {T = T} (Ok u) k now link moment all a b
+all_answered u k now link moment all a b s = record { exchanges = s.done; of_events = sym (s.parts ∙ append-nil (events_of s.done)); written = s.wrote; keeps = s.keeps }

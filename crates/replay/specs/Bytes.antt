@@ -1,10 +1,5 @@
 -- Lists of bytes.
 use Rattle.std.specs.Prelude.{◌≡◌, ◌≢◌, ℕ, List, ◌∷◌, ◌++◌, length, slice_index}
-use Rattle.std.specs.List.{AllByRecursion}
-
--- no byte of bs is c
-abbrev pub Without : ℕ → List ℕ → Type 0
-Without c bs = AllByRecursion (λ b. b ≢ c) bs
 
 -- bs begins with no `+`, and with `0` only where that is all
 abbrev pub IsPlain : List ℕ → Type 0

@@ -1,37 +1,40 @@
 -- Laws of scripts and of what is written for them.
-use Rattle.std.specs.Prelude.{◌≡◌, ℕ, ◌⊎◌, ◌==◌, List}
-use Rattle.std.specs.List.{filter, AllByRecursion}
+use Rattle.std.specs.Prelude.{◌≡◌, ℕ, ◌⊎◌, List, ◌++◌, map}
+use Rattle.std.specs.List.{AllByRecursion}
 use Rattle.cta_site.specs.declared.site.Site.{Site}
-use Rattle.conn.specs.Cut.{Event, Continues, Asks as Sends, Refuses}
-use Rattle.tape_routes.specs.Asked.{Asked, Asks, Looks, Replies, asked}
-use Rattle.links.specs.Run.{Turn, Told, on, all_told, IsRunOf}
-use Rattle.links.specs.Replies.{replies_from}
+use Rattle.cta_model.specs.Kept.{Kept}
+use Rattle.cta_model.specs.Legal.{IsLegal}
 use Rattle.links.specs.Laws.{MayDiffer}
-use Rattle.replay.specs.Script.{Cut, IsCut, cut_bytes, cut_feeds}
-use Rattle.replay.specs.Output.{by_archive, fresh, request_of, output_of}
+use Rattle.replay.specs.Script.{Record, ScriptCut, IsScriptCut, IsRecord, cut_bytes, cut_records}
+use Rattle.replay.specs.Run.{ScriptTurn, Happening, IsScriptRun, contents_in, links_turns, happenings_on}
+use Rattle.replay.specs.Output.{after, history_of_run, kept_behind, output_of, output_on, replies_on}
 
--- the bytes of a script tell what is written for it, but for the two exceptions of the wire, in which a cut of a link may wait where another refuses
+-- the bytes of a script, and the contents that go out, tell what is written for it, but for the two exceptions of the wire, in which a cut of a link may wait where another refuses
 abbrev pub HasOneOutput : Site → Type 0
 HasOneOutput site =
-    (c d : Cut) (xs ys : List Turn) → IsCut site c → IsCut site d → cut_bytes site c ≡ cut_bytes site d
-    → IsRunOf site.limits.file (cut_feeds c) xs → IsRunOf site.limits.file (cut_feeds d) ys
-    → (output_of site xs ≡ output_of site ys) ⊎ MayDiffer site.limits.file xs
+    (c d : ScriptCut) (xs ys : List ScriptTurn) → IsScriptCut site c → IsScriptCut site d → cut_bytes site c ≡ cut_bytes site d
+    → IsScriptRun site (cut_records c) xs → IsScriptRun site (cut_records d) ys → map contents_in xs ≡ map contents_in ys
+    → (output_of site xs ≡ output_of site ys) ⊎ MayDiffer site.limits.file (links_turns xs)
 
--- what is asked doesn't ask the archive to change
-abbrev pub IsNoChange : Asked → Type 0
-IsNoChange (Asks ask content) = ⊥
-IsNoChange (Looks look) = Unit {0}
-IsNoChange (Replies reply) = Unit {0}
+-- what happens leaves what is kept as it is: so does all that doesn't ask the archive to change, and each ask that is refused
+abbrev pub LeavesKept : Kept → Happening → Type 0
+LeavesKept kept h = kept_behind kept h ≡ kept
 
--- an event doesn't ask the archive of the site to change
-abbrev pub ChangesNothing : Site → Event → Type 0
-ChangesNothing site Continues = Unit {0}
-ChangesNothing site (Sends sent) = IsNoChange (asked site (request_of sent))
-ChangesNothing site (Refuses refusal) = Unit {0}
-
--- as long as nothing asks the archive to change, the replies on a link are those to its own records alone
+-- as long as nothing changes what is kept, the replies on a link are those to its own events alone
 abbrev pub HasLinksApart : Type 0
 HasLinksApart =
-    (site : Site) (turns : List Turn) (link : ℕ) → AllByRecursion (λ (t : Told). ChangesNothing site t.event) (all_told turns)
-    → filter (λ r. r.link == link) (replies_from by_archive (fresh site) (all_told turns))
-    ≡ replies_from by_archive (fresh site) (all_told (on link turns))
+    (kept : Kept) (happened : List Happening) (link : ℕ) → AllByRecursion (LeavesKept kept) happened
+    → replies_on link kept happened ≡ replies_on link kept (happenings_on link happened)
+
+-- what is written for what happens first, and then for more, is what is written for the first, and then for the others on what is kept behind the first
+abbrev pub OutputsFollow : Type 0
+OutputsFollow =
+    (kept : Kept) (first more : List Happening)
+    → (output_on kept (first ++ more) ≡ output_on kept first ++ output_on (after kept first) more)
+    × (after kept (first ++ more) ≡ after (after kept first) more)
+
+-- the history that is kept behind a run of records is legal for the site
+abbrev pub KeepsLegalHistories : Type 0
+KeepsLegalHistories =
+    (site : Site) (records : List Record) (turns : List ScriptTurn) → AllByRecursion (IsRecord site) records → IsScriptRun site records turns
+    → IsLegal site (history_of_run site turns)

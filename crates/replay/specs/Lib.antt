@@ -2,6 +2,8 @@ pub mod Bytes
 pub mod Words
 pub mod Line
 pub mod Script
+pub mod Run
+pub mod Seen
 pub mod Output
 pub mod Intake
 pub mod Outcome

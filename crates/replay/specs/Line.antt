@@ -39,11 +39,11 @@ abbrev pub IsHttp : ℕ → ℕ → ℕ → Type 0
 IsHttp link moment len = (link ≤ 1023) × (moment ≤ greatest_moment) × (len ≤ 2147483648)
 
 -- the numbers of a `step` line: a drive of the site, and a moment
-abbrev pub IsStep : Site → ℕ → ℕ → Type 0
-IsStep site drive moment = (drive < length site.drives.items) × (moment ≤ greatest_moment)
+abbrev pub IsDriveStep : Site → ℕ → ℕ → Type 0
+IsDriveStep site drive moment = (drive < length site.drives.items) × (moment ≤ greatest_moment)
 
 -- a line of a script for a site
 abbrev pub IsLine : Site → Line → Type 0
 IsLine site (Http h) = IsHttp h.link h.moment h.len
-IsLine site (Step drive moment) = IsStep site drive moment
+IsLine site (Step drive moment) = IsDriveStep site drive moment
 IsLine site End = Unit {0}

@@ -3,8 +3,8 @@ use Rattle.std.specs.Prelude.{◌≡◌, ◌≢◌, ℕ, ◌≤◌, List, [], �
 use Rattle.std.specs.List.{flat_map, AllByRecursion}
 use Rattle.cta_site.specs.declared.site.Site.{Site}
 use Rattle.links.specs.Run.{Feed}
-use Rattle.replay.specs.Bytes.{Without}
-use Rattle.replay.specs.Line.{text, http_text, IsHttp, IsStep, IsLine}
+use Rattle.cta_site.specs.Bytes.{Without}
+use Rattle.replay.specs.Line.{text, http_text, IsHttp, IsDriveStep, IsLine}
 use Rattle.replay.specs.declared.line.Line.{Line}
 use Rattle.replay.specs.declared.line.Line.TheVariants.{Step}
 
@@ -16,37 +16,53 @@ ended line = line ++ 10 ∷ []
 abbrev pub feeding : ℕ → ℕ → ℕ → List ℕ → List ℕ
 feeding link moment len held = ended (http_text link moment len) ++ held
 
--- a whole record that is built: bytes for a link, at a moment
-abbrev pub spelling : Feed → List ℕ
-spelling f = feeding f.link f.moment (length f.bytes) f.bytes ++ 10 ∷ []
-
--- its numbers are in their ranges
-abbrev pub IsRecord : Feed → Type 0
-IsRecord f = IsHttp f.link f.moment (length f.bytes)
-
 -- these bytes for this link, at this moment
 abbrev pub feed : ℕ → ℕ → List ℕ → Feed
 feed link moment bytes = record { link = link; moment = moment; bytes = bytes }
 
--- what stands behind the last whole record that is built
-pub data Tail : Type 0 where
+-- a whole record of a script: bytes for a link, or a step of a drive, at a moment
+pub data Record : Type 0 where
+  OfLink : (bytes : Feed) → Record
+  OfDrive : (drive moment : ℕ) → Record
+
+-- the bytes of a record
+abbrev pub spelling : Site → Record → List ℕ
+spelling site (OfLink f) = feeding f.link f.moment (length f.bytes) f.bytes ++ 10 ∷ []
+spelling site (OfDrive drive moment) = ended (text site (Step drive moment))
+
+-- its numbers are in their ranges
+abbrev pub IsRecord : Site → Record → Type 0
+IsRecord site (OfLink f) = IsHttp f.link f.moment (length f.bytes)
+IsRecord site (OfDrive drive moment) = IsDriveStep site drive moment
+
+-- a record of a kind that is built: steps are not built yet
+abbrev pub IsBuilt : Record → Type 0
+IsBuilt (OfLink f) = Unit {0}
+IsBuilt (OfDrive drive moment) = ⊥
+
+-- a record that is carried out
+abbrev pub IsCarriedOut : Site → Record → Type 0
+IsCarriedOut site r = IsRecord site r × IsBuilt r
+
+-- what stands behind the last whole record that is carried out
+pub data ScriptTail : Type 0 where
   -- the line `end`
-  Ended : Tail
+  Ended : ScriptTail
   -- part of a line that no LF has ended
-  InLine : (part : List ℕ) → Tail
+  InLine : (part : List ℕ) → ScriptTail
   -- an `http` record up to some of its bytes
-  InBytes : (link moment len : ℕ) (held : List ℕ) → Tail
+  InBytes : (link moment len : ℕ) (held : List ℕ) → ScriptTail
   -- a line that is none of a script's
-  BadLine : (line : List ℕ) → Tail
+  BadLine : (line : List ℕ) → ScriptTail
   -- one byte more than a line may have
-  LongLine : (part : List ℕ) → Tail
+  LongLine : (part : List ℕ) → ScriptTail
   -- an `http` record with another byte where its last LF should stand
-  NoLf : (link moment : ℕ) (bytes : List ℕ) (byte : ℕ) → Tail
+  NoLf : (link moment : ℕ) (bytes : List ℕ) (byte : ℕ) → ScriptTail
   -- a whole `step` record, which is not built
-  UnbuiltStep : (drive moment : ℕ) → Tail
+  UnbuiltStep : (drive moment : ℕ) → ScriptTail
 
 -- the bytes of a tail
-abbrev pub tail_bytes : Site → Tail → List ℕ
+abbrev pub tail_bytes : Site → ScriptTail → List ℕ
 tail_bytes site Ended = ended (codes "end")
 tail_bytes site (InLine part) = part
 tail_bytes site (InBytes link moment len held) = feeding link moment len held
@@ -56,37 +72,37 @@ tail_bytes site (NoLf link moment bytes byte) = feeding link moment (length byte
 tail_bytes site (UnbuiltStep drive moment) = ended (text site (Step drive moment))
 
 -- a tail that is what it says
-abbrev pub IsTail : Site → Tail → Type 0
-IsTail site Ended = Unit {0}
-IsTail site (InLine part) = Without 10 part × (length part ≤ 256)
-IsTail site (InBytes link moment len held) = IsHttp link moment len × (length held ≤ len)
-IsTail site (BadLine line) = Without 10 line × (length line ≤ 256) × ((l : Line) → IsLine site l → text site l ≢ line)
-IsTail site (LongLine part) = Without 10 part × (length part ≡ 257)
-IsTail site (NoLf link moment bytes byte) = IsHttp link moment (length bytes) × (byte ≢ 10)
-IsTail site (UnbuiltStep drive moment) = IsStep site drive moment
+abbrev pub IsScriptTail : Site → ScriptTail → Type 0
+IsScriptTail site Ended = Unit {0}
+IsScriptTail site (InLine part) = Without 10 part × (length part ≤ 256)
+IsScriptTail site (InBytes link moment len held) = IsHttp link moment len × (length held ≤ len)
+IsScriptTail site (BadLine line) = Without 10 line × (length line ≤ 256) × ((l : Line) → IsLine site l → text site l ≢ line)
+IsScriptTail site (LongLine part) = Without 10 part × (length part ≡ 257)
+IsScriptTail site (NoLf link moment bytes byte) = IsHttp link moment (length bytes) × (byte ≢ 10)
+IsScriptTail site (UnbuiltStep drive moment) = IsDriveStep site drive moment
 
--- the bytes of a cut record are fed as they come
-abbrev pub tail_feeds : Tail → List Feed
-tail_feeds Ended = []
-tail_feeds (InLine part) = []
-tail_feeds (InBytes link moment len held) = feed link moment held ∷ []
-tail_feeds (BadLine line) = []
-tail_feeds (LongLine part) = []
-tail_feeds (NoLf link moment bytes byte) = feed link moment bytes ∷ []
-tail_feeds (UnbuiltStep drive moment) = []
+-- the bytes of a cut record come to its link as they are, as a record of their own would bring them
+abbrev pub tail_records : ScriptTail → List Record
+tail_records Ended = []
+tail_records (InLine part) = []
+tail_records (InBytes link moment len held) = OfLink (feed link moment held) ∷ []
+tail_records (BadLine line) = []
+tail_records (LongLine part) = []
+tail_records (NoLf link moment bytes byte) = OfLink (feed link moment bytes) ∷ []
+tail_records (UnbuiltStep drive moment) = []
 
 -- more may come
-abbrev pub IsOpen : Tail → Type 0
-IsOpen Ended = ⊥
-IsOpen (InLine part) = Unit {0}
-IsOpen (InBytes link moment len held) = Unit {0}
-IsOpen (BadLine line) = ⊥
-IsOpen (LongLine part) = ⊥
-IsOpen (NoLf link moment bytes byte) = ⊥
-IsOpen (UnbuiltStep drive moment) = ⊥
+abbrev pub MayGoOn : ScriptTail → Type 0
+MayGoOn Ended = ⊥
+MayGoOn (InLine part) = Unit {0}
+MayGoOn (InBytes link moment len held) = Unit {0}
+MayGoOn (BadLine line) = ⊥
+MayGoOn (LongLine part) = ⊥
+MayGoOn (NoLf link moment bytes byte) = ⊥
+MayGoOn (UnbuiltStep drive moment) = ⊥
 
 -- no record goes on so, and this many bytes of the tail stand before the fault
-abbrev pub IsRefusedAt : Tail → ℕ → Type 0
+abbrev pub IsRefusedAt : ScriptTail → ℕ → Type 0
 IsRefusedAt Ended at = ⊥
 IsRefusedAt (InLine part) at = ⊥
 IsRefusedAt (InBytes link moment len held) at = ⊥
@@ -96,7 +112,7 @@ IsRefusedAt (NoLf link moment bytes byte) at = at ≡ length (feeding link momen
 IsRefusedAt (UnbuiltStep drive moment) at = ⊥
 
 -- a whole record that is not built
-abbrev pub IsUnbuilt : Tail → Type 0
+abbrev pub IsUnbuilt : ScriptTail → Type 0
 IsUnbuilt Ended = ⊥
 IsUnbuilt (InLine part) = ⊥
 IsUnbuilt (InBytes link moment len held) = ⊥
@@ -105,27 +121,27 @@ IsUnbuilt (LongLine part) = ⊥
 IsUnbuilt (NoLf link moment bytes byte) = ⊥
 IsUnbuilt (UnbuiltStep drive moment) = Unit {0}
 
--- a script that was cut somewhere: its whole records that are built, and what stands behind them
-pub record Cut : Type 0 where
-  pub whole : List Feed
-  pub tail : Tail
+-- a script that was cut somewhere: its whole records that are carried out, and what stands behind them
+pub record ScriptCut : Type 0 where
+  pub whole : List Record
+  pub tail : ScriptTail
 
 -- the bytes of whole records
-abbrev pub whole_bytes : List Feed → List ℕ
-whole_bytes feeds = flat_map spelling feeds
+abbrev pub whole_bytes : Site → List Record → List ℕ
+whole_bytes site records = flat_map (spelling site) records
 
 -- the bytes of a cut script
-abbrev pub cut_bytes : Site → Cut → List ℕ
-cut_bytes site c = whole_bytes c.whole ++ tail_bytes site c.tail
+abbrev pub cut_bytes : Site → ScriptCut → List ℕ
+cut_bytes site c = whole_bytes site c.whole ++ tail_bytes site c.tail
 
--- all that a cut script feeds to its links
-abbrev pub cut_feeds : Cut → List Feed
-cut_feeds c = c.whole ++ tail_feeds c.tail
+-- all that a cut script brings, the bytes of a cut record among it
+abbrev pub cut_records : ScriptCut → List Record
+cut_records c = c.whole ++ tail_records c.tail
 
 -- each of its parts is what it says
-abbrev pub IsCut : Site → Cut → Type 0
-IsCut site c = AllByRecursion IsRecord c.whole × IsTail site c.tail
+abbrev pub IsScriptCut : Site → ScriptCut → Type 0
+IsScriptCut site c = AllByRecursion (IsCarriedOut site) c.whole × IsScriptTail site c.tail
 
 -- a script is read in one way: of two cuts with the same bytes, both are one
 abbrev pub HasOneReading : Site → Type 0
-HasOneReading site = (c d : Cut) → IsCut site c → IsCut site d → cut_bytes site c ≡ cut_bytes site d → c ≡ d
+HasOneReading site = (c d : ScriptCut) → IsScriptCut site c → IsScriptCut site d → cut_bytes site c ≡ cut_bytes site d → c ≡ d

@@ -11,6 +11,7 @@ use Rattle.cta_site.specs.Numbering.{IsNumberedFrom}
 use Rattle.site_json.specs.File.{file_fault, site_of}
 use Rattle.cta_model.specs.Kept.{Kept}
 use Rattle.replay.specs.Output.{fresh}
+use Rattle.replay.specs.Seen.{SourceView}
 use Rattle.replay.specs.declared.site.SiteEnd.{SiteEnd}
 use Rattle.replay.specs.declared.site.SiteEnd.TheVariants.{Whole, Long, Fault, Memory}
 use Rattle.replay.specs.declared.status.Status.{Status}
@@ -20,12 +21,12 @@ use Rattle.replay.specs.declared.status.Status.TheVariants.{Ok, Usage, Site as S
 abbrev pub site_limit : ℕ
 site_limit = 16777216
 
--- the whole site file was taken; or one byte more than it may have; or its source has failed; or memory was wanted
-abbrev pub TookSite : SiteEnd → Option (List ℕ) → Option (List ℕ) → ℕ → ℕ → List ℕ → Type 0
-TookSite Whole left left' faults faults' bytes = Consumes left left' bytes × IsAtEnd left' × (length bytes ≤ site_limit)
-TookSite Long left left' faults faults' bytes = Consumes left left' bytes × (length bytes ≡ site_limit + 1)
-TookSite Fault left left' faults faults' bytes = Rose faults faults'
-TookSite Memory left left' faults faults' bytes = Unit {0}
+-- the whole site file was taken; or one byte more than it may have; or its source has failed, with no more taken than a site file may have; or memory was wanted
+abbrev pub TookSite : SiteEnd → SourceView → SourceView → List ℕ → Type 0
+TookSite Whole a b bytes = Consumes a.left b.left bytes × IsAtEnd b.left × (length bytes ≤ site_limit)
+TookSite Long a b bytes = Consumes a.left b.left bytes × (length bytes ≡ site_limit + 1)
+TookSite Fault a b bytes = Consumes a.left b.left bytes × (length bytes ≤ site_limit) × Rose a.faults b.faults
+TookSite Memory a b bytes = Unit {0}
 
 -- the first of the thirty rules that the bytes of a site file break, and the item that breaks it: the first of rules 1 to 7, which speak of the file, else the first of all others that the site breaks which it tells
 abbrev pub site_fault : List ℕ → Option (ℕ × ℕ)
@@ -63,27 +64,26 @@ abbrev pub ArchiveMade : Result Kept Status → List ℕ → Type 0
 ArchiveMade r bytes = MatchResult r (IsArchiveOf bytes) (λ status. NoArchive status bytes)
 
 -- all bytes of a site file were taken, or one more than it may have
-abbrev pub IsTakenSite : List ℕ → Option (List ℕ) → Type 0
-IsTakenSite bytes left' = (length bytes ≡ site_limit + 1) ⊎ IsAtEnd left'
+abbrev pub IsTakenSite : List ℕ → SourceView → Type 0
+IsTakenSite bytes b = (length bytes ≡ site_limit + 1) ⊎ IsAtEnd b.left
 
 -- when each status comes for a site file
-abbrev pub NoSite : Status → Option (List ℕ) → Option (List ℕ) → ℕ → ℕ → Type 0
-NoSite (SiteRule rule item) left left' faults faults' = (bytes : List ℕ) × Consumes left left' bytes × IsTakenSite bytes left' × (site_fault bytes ≡ Some (rule, item))
-NoSite ReadFault left left' faults faults' = Rose faults faults'
-NoSite NoMemory left left' faults faults' = Unit {0}
-NoSite Ok left left' faults faults' = ⊥
-NoSite Usage left left' faults faults' = ⊥
-NoSite (Script offset) left left' faults faults' = ⊥
-NoSite WriteFault left left' faults faults' = ⊥
-NoSite TooLong left left' faults faults' = ⊥
-NoSite ListenFault left left' faults faults' = ⊥
-NoSite (NotBuilt offset) left left' faults faults' = ⊥
+abbrev pub NoSite : Status → SourceView → SourceView → Type 0
+NoSite (SiteRule rule item) a b = (bytes : List ℕ) × Consumes a.left b.left bytes × IsTakenSite bytes b × (site_fault bytes ≡ Some (rule, item))
+NoSite ReadFault a b = (bytes : List ℕ) × Consumes a.left b.left bytes × (length bytes ≤ site_limit) × Rose a.faults b.faults
+NoSite NoMemory a b = Unit {0}
+NoSite Ok a b = ⊥
+NoSite Usage a b = ⊥
+NoSite (Script offset) a b = ⊥
+NoSite WriteFault a b = ⊥
+NoSite TooLong a b = ⊥
+NoSite ListenFault a b = ⊥
+NoSite (NotBuilt offset) a b = ⊥
 
 -- the whole site file was read, and tells this site
-abbrev pub ReadsSite : Option (List ℕ) → Option (List ℕ) → Site → Type 0
-ReadsSite left left' site = (bytes : List ℕ) × Consumes left left' bytes × IsAtEnd left' × IsSiteOf bytes site
+abbrev pub ReadsSite : SourceView → SourceView → Site → Type 0
+ReadsSite a b site = (bytes : List ℕ) × Consumes a.left b.left bytes × IsAtEnd b.left × IsSiteOf bytes site
 
 -- an archive of the site that the file tells, or why there is none
-abbrev pub SiteRead : Result Kept Status → Option (List ℕ) → Option (List ℕ) → ℕ → ℕ → Type 0
-SiteRead r left left' faults faults' =
-    MatchResult r (λ archive. ReadsSite left left' archive.site × (archive ≡ fresh archive.site)) (λ status. NoSite status left left' faults faults')
+abbrev pub SiteRead : Result Kept Status → SourceView → SourceView → Type 0
+SiteRead r a b = MatchResult r (λ archive. ReadsSite a b archive.site × (archive ≡ fresh archive.site)) (λ status. NoSite status a b)

@@ -1,10 +1,11 @@
 // Parts of byte strings.
 ghost use Rattle.std.specs.Prelude.{◌≡◌, ◌≢◌, ◌≤◌, ℕ, MatchOption, IsTrue, ◌↔◌};
 ghost use Rattle.std.specs.Fmt.{decimal};
-ghost use Rattle.replay.specs.Bytes.{Without, IsPlain, then_byte};
+ghost use Rattle.cta_site.specs.Bytes.{Without};
+ghost use Rattle.replay.specs.Bytes.{IsPlain, then_byte};
 
 // The part before the first such byte, and what stands behind that byte.
-pub fn first_part(bytes: &[u8], end: u8) -> Option<(&[u8], &[u8])>
+pub(crate) fn first_part(bytes: &[u8], end: u8) -> Option<(&[u8], &[u8])>
     ensures { MatchOption result (Without end bytes.now)
         (λ parts. Without end parts.0.now × (bytes.now ≡ then_byte end parts.0.now parts.1.now)) }
 {
@@ -24,7 +25,7 @@ fn is_plain(bytes: &[u8]) -> bool
 }
 
 // The number of at most so much that these digits spell, with no sign and no leading zero.
-pub fn number_of(bytes: &[u8], most: u64) -> Option<u64>
+pub(crate) fn number_of(bytes: &[u8], most: u64) -> Option<u64>
     ensures { MatchOption result ((n : ℕ) → n ≤ most → decimal n ≢ bytes.now)
         (λ n. (n ≤ most) × (decimal n ≡ bytes.now)) }
 {

@@ -6,7 +6,9 @@ ghost use Rattle.links.specs.Run.{Turn};
 ghost use Rattle.links.specs.Standing.{StandFor, HasRoomOn};
 ghost use Rattle.replay.specs.Line.{IsHttp};
 ghost use Rattle.replay.specs.Intake.{budget};
-ghost use Rattle.replay.specs.Outcome.{Feeds, Delivers, turn_with, world};
+ghost use Rattle.replay.specs.Run.{turn_with};
+ghost use Rattle.replay.specs.Seen.{script_view, sink_view, world};
+ghost use Rattle.replay.specs.Outcome.{Feeds, Delivers};
 
 use crate::front::Front;
 use crate::intake::{BUDGET, Stop, take_piece};
@@ -16,14 +18,14 @@ use links::begins_empty;
 use outside::{Sink, Source};
 use std::alloc::Global;
 
-/// How the feeding of a record's bytes ended.
+// How the feeding of a record's bytes ended.
 #[derive(Clone, Copy, Debug, PartialEq, Eq)]
-pub enum FeedEnd {
-    /// All bytes were fed and answered.
+pub(crate) enum FeedEnd {
+    // All bytes were fed and answered.
     All,
-    /// Only some bytes came; they were fed and answered.
+    // Only some bytes came; they were fed and answered.
     Part(Stop),
-    /// Not all replies were written.
+    // Not all replies were written.
     Unanswered(Unwritten),
 }
 
@@ -41,7 +43,7 @@ fn feed_piece<K: Sink>(
     requires room { HasRoomOn front.old.links link (length piece.now) }
     ensures feeds { (limit : ℕ) (before : List Turn) (bytes : List ℕ) (events : List Event) → StandFor front.old.links limit (before ++ turn_with link moment bytes events ∷ [])
         → Feeds result front.new.links limit front.old.service.archive front.new.service.archive before link moment (bytes ++ piece.now) events
-        (K.written out.old) (K.written out.new) (K.faults out.old) (K.faults out.new) }
+        (sink_view (K.written out.old) (K.faults out.old)) (sink_view (K.written out.new) (K.faults out.new)) }
     ensures later { K.faults out.old ≤ K.faults out.new }
 {
     match front.links.turn(alloc, link, piece) {
@@ -50,9 +52,9 @@ fn feed_piece<K: Sink>(
     }
 }
 
-/// Takes the bytes of a record, and feeds them to its link as they come; each event that they complete is answered at the
-/// record's moment. Room is made before a byte is taken, so that what was taken can be fed. `buffer` is room for a piece.
-pub fn feed_record<S: Source, K: Sink>(
+// Takes the bytes of a record, and feeds them to its link as they come; each event that they complete is answered at the
+// record's moment. Room is made before a byte is taken, so that what was taken can be fed. `buffer` is room for a piece.
+pub(crate) fn feed_record<S: Source, K: Sink>(
     alloc: Global,
     front: &mut Front,
     script: &mut S,
@@ -66,8 +68,8 @@ pub fn feed_record<S: Source, K: Sink>(
     requires buffer { 0 < length buffer.old }
     ensures delivers { (before : List Turn) → StandFor front.old.links front.old.service.archive.site.limits.file before
         → Delivers result front.new.links front.old.service.archive front.new.service.archive before line.link line.moment line.len
-        (world (S.left script.old) taken.old (S.faults script.old) (K.written out.old) (K.faults out.old))
-        (world (S.left script.new) taken.new (S.faults script.new) (K.written out.new) (K.faults out.new)) }
+        (world (script_view (S.left script.old) taken.old (S.faults script.old)) (sink_view (K.written out.old) (K.faults out.old)))
+        (world (script_view (S.left script.new) taken.new (S.faults script.new)) (sink_view (K.written out.new) (K.faults out.new))) }
     ensures later { (S.faults script.old ≤ S.faults script.new) × (K.faults out.old ≤ K.faults out.new) }
     ensures within { taken.new ≤ budget }
 {

@@ -8,16 +8,16 @@ use cta_model::NoMemory;
 use links::Links;
 use std::alloc::Global;
 
-/// An archive behind its routes, and the links over which requests come to it.
+// An archive behind its routes, and the links over which requests come to it.
 #[derive(Drop)]
-pub struct Front {
-    pub service: Service,
-    pub links: Links,
+pub(crate) struct Front {
+    pub(crate) service: Service,
+    pub(crate) links: Links,
 }
 
 impl Front {
-    /// This archive, with its routes made ready and with links of which nothing was read. NoMemory lets the archive go.
-    pub fn new(alloc: Global, archive: Archive) -> Result<Front, NoMemory>
+    // This archive, with its routes made ready and with links of which nothing was read. NoMemory lets the archive go.
+    pub(crate) fn new(alloc: Global, archive: Archive) -> Result<Front, NoMemory>
         ensures archive { IfOk result (λ front. front.service.archive ≡ archive) }
         ensures links { IfOk result (λ front. LinksStand front.links front.service.archive.site.limits.file (λ link. []) (λ link. [])) }
     {

@@ -1,45 +1,46 @@
 // Bytes, lines and pieces, taken from a script.
 ghost use Rattle.std.specs.Prelude.{◌≡◌, ◌≤◌, ◌<◌, ◌+◌, IfErr, length};
+ghost use Rattle.replay.specs.Seen.{script_view};
 ghost use Rattle.replay.specs.Intake.{budget, HasStopped, TookByte, TookLine, TookPiece};
 
 use outside::{Failed, Source};
 
-/// The most bytes of a script that are taken.
-pub const BUDGET: u64 = 4_294_967_296;
+// The most bytes of a script that are taken.
+pub(crate) const BUDGET: u64 = 4_294_967_296;
 
-/// The most bytes of a line before its LF.
-pub const LINE: usize = 256;
+// The most bytes of a line before its LF.
+pub(crate) const LINE: usize = 256;
 
-/// Why no further byte was taken.
+// Why no further byte was taken.
 #[derive(Clone, Copy, Debug, PartialEq, Eq)]
-pub enum Stop {
-    /// The source is at its end.
+pub(crate) enum Stop {
+    // The source is at its end.
     End,
-    /// The source failed.
+    // The source failed.
     Fault,
-    /// As many bytes were taken as may be.
+    // As many bytes were taken as may be.
     Full,
-    /// There is no room for it.
+    // There is no room for it.
     Memory,
 }
 
-/// How the reading of a line ended.
+// How the reading of a line ended.
 #[derive(Clone, Copy, Debug, PartialEq, Eq)]
-pub enum LineEnd {
-    /// It has this many bytes before its LF.
+pub(crate) enum LineEnd {
+    // It has this many bytes before its LF.
     Whole(usize),
-    /// It has more bytes than a line may have.
+    // It has more bytes than a line may have.
     Long,
-    /// It was not ended.
+    // It was not ended.
     Stopped(Stop),
 }
 
 // The next byte of the script.
-pub fn take_byte<S: Source>(script: &mut S, taken: &mut u64) -> Result<u8, Stop>
+pub(crate) fn take_byte<S: Source>(script: &mut S, taken: &mut u64) -> Result<u8, Stop>
     requires { taken.old ≤ budget }
-    ensures took { TookByte (S.left script.old) (S.left script.new) taken.old taken.new result }
-    ensures stopped { IfErr result (λ why.
-        HasStopped why (S.left script.new) taken.new (S.faults script.old) (S.faults script.new)) }
+    ensures took { TookByte (script_view (S.left script.old) taken.old (S.faults script.old)) (script_view (S.left script.new) taken.new (S.faults script.new)) result }
+    ensures stopped { IfErr result (λ why. HasStopped why (script_view (S.left script.old) taken.old (S.faults script.old))
+        (script_view (S.left script.new) taken.new (S.faults script.new))) }
     ensures later { S.faults script.old ≤ S.faults script.new }
     ensures within { taken.new ≤ budget }
 {
@@ -58,11 +59,11 @@ pub fn take_byte<S: Source>(script: &mut S, taken: &mut u64) -> Result<u8, Stop>
 }
 
 // A line, put into the front of `line` without its LF.
-pub fn take_line<S: Source>(script: &mut S, taken: &mut u64, line: &mut [u8]) -> LineEnd
+pub(crate) fn take_line<S: Source>(script: &mut S, taken: &mut u64, line: &mut [u8]) -> LineEnd
     requires within { taken.old ≤ budget }
     requires room { length line.old ≡ 256 }
-    ensures took { TookLine result (S.left script.old) (S.left script.new) taken.old taken.new
-        (S.faults script.old) (S.faults script.new) line.new }
+    ensures took { TookLine result (script_view (S.left script.old) taken.old (S.faults script.old))
+        (script_view (S.left script.new) taken.new (S.faults script.new)) line.new }
     ensures later { S.faults script.old ≤ S.faults script.new }
     ensures within { taken.new ≤ budget }
 {
@@ -81,16 +82,17 @@ pub fn take_line<S: Source>(script: &mut S, taken: &mut u64, line: &mut [u8]) ->
 }
 
 // A piece of the script, put into the front of `piece`.
-pub fn take_piece<S: Source>(
+pub(crate) fn take_piece<S: Source>(
     script: &mut S,
     taken: &mut u64,
     piece: &mut [u8],
 ) -> Result<usize, Stop>
     requires room { 0 < length piece.old }
     requires within { taken.old + length piece.old ≤ budget }
-    ensures took { TookPiece (S.left script.old) (S.left script.new) taken.old taken.new result piece.new }
-    ensures stopped { IfErr result (λ why.
-        HasStopped why (S.left script.new) taken.new (S.faults script.old) (S.faults script.new)) }
+    ensures took { TookPiece (script_view (S.left script.old) taken.old (S.faults script.old))
+        (script_view (S.left script.new) taken.new (S.faults script.new)) result piece.new }
+    ensures stopped { IfErr result (λ why. HasStopped why (script_view (S.left script.old) taken.old (S.faults script.old))
+        (script_view (S.left script.new) taken.new (S.faults script.new))) }
     ensures later { S.faults script.old ≤ S.faults script.new }
     ensures within { taken.new ≤ budget }
 {

@@ -2,23 +2,24 @@
 ghost use Rattle.cta_site.specs.declared.site.Site.{Site};
 ghost use Rattle.cta_site.specs.ValidSite.{IsValidSite};
 ghost use Rattle.replay.specs.Script.{HasOneReading};
-ghost use Rattle.replay.specs.Laws.{HasLinksApart, HasOneOutput};
+ghost use Rattle.replay.specs.Laws.{HasLinksApart, HasOneOutput, KeepsLegalHistories, OutputsFollow};
 
+use cta_model::histories_stay_legal;
 use cta_site::valid_is_well_formed;
-use links::{one_run, replies_apart};
+use links::one_run;
 
 /// The bytes of a script that was cut somewhere are read in one way: for a valid site, two cuts with the same bytes are
-/// one cut, with the same whole records and the same tail. So the bytes that a run has taken tell what was fed. A law (this
-/// project's own), which does nothing when it runs.
+/// one cut, with the same whole records and the same tail. So the bytes that a run has taken tell what it brought. A law
+/// (this project's own), which does nothing when it runs.
 pub fn one_reading()
     ensures { (site : Site) → IsValidSite site → HasOneReading site }
 {
     valid_is_well_formed();
 }
 
-/// The bytes of a script tell what is written for it, but for the two exceptions of a connection: inside a target that is
-/// malformed, and after a 65th field of a head or a trailer, a cut may wait where another refuses. A law, which does nothing
-/// when it runs.
+/// The bytes of a script, and the contents that go out, tell what is written for it, but for the two exceptions of a
+/// connection: inside a target that is malformed, and after a 65th field of a head or a trailer, a cut may wait where another
+/// refuses. A law, which does nothing when it runs.
 pub fn one_output()
     ensures { (site : Site) → IsValidSite site → HasOneOutput site }
 {
@@ -26,10 +27,22 @@ pub fn one_output()
     one_run();
 }
 
-/// The replies on one link don't depend on the bytes of another, as long as nothing asks the archive to change. A law, which
-/// does nothing when it runs.
+/// The replies on one link don't depend on the bytes of another, as long as what is kept stays as it is: so with looks, and with
+/// asks that are refused. A law, which does nothing when it runs.
 pub fn links_apart()
     ensures { HasLinksApart }
+{}
+
+/// What happens is answered one after the other, on what was kept behind what happened before it: the output for what happens
+/// first and then for more is that for the first, and then that for the others. A law, which does nothing when it runs.
+pub fn outputs_follow()
+    ensures { OutputsFollow }
+{}
+
+/// The history that an archive has kept behind a run of records is legal for its site, so that each law of every legal
+/// history holds of it. A law, which does nothing when it runs.
+pub fn runs_keep_legal_histories()
+    ensures { KeepsLegalHistories }
 {
-    replies_apart();
+    histories_stay_legal();
 }

@@ -21,6 +21,6 @@ mod tests;
 mod top;
 mod words;
 
-pub use laws::{links_apart, one_output, one_reading};
+pub use laws::{links_apart, one_output, one_reading, outputs_follow, runs_keep_legal_histories};
 pub use status::Status;
 pub use top::replay_top;

@@ -1,23 +1,23 @@
 // The lines of a script.
 ghost use Rattle.std.specs.Prelude.{◌≡◌, ◌≢◌, ◌<◌, ◌≤◌, ℕ, length, MatchOption};
 ghost use Rattle.cta_site.specs.declared.site.Site.{Site};
-ghost use Rattle.replay.specs.Line.{text, drive_name, http_words, step_words, IsHttp, IsStep, IsLine};
+ghost use Rattle.replay.specs.Line.{text, drive_name, http_words, step_words, IsHttp, IsDriveStep, IsLine};
 ghost use Rattle.replay.specs.declared.line.Line.{Line};
 
 use crate::bytes::{first_part, number_of};
 use cta_site::ValidSite;
 
-/// What the line of an `http` record says: so many bytes for a link, at a moment, in seconds since 1970.
+// What the line of an `http` record says: so many bytes for a link, at a moment, in seconds since 1970.
 #[derive(Clone, Copy, Debug, PartialEq, Eq)]
-pub struct HttpLine {
-    pub link: u32,
-    pub moment: u64,
-    pub len: u32,
+pub(crate) struct HttpLine {
+    pub(crate) link: u32,
+    pub(crate) moment: u64,
+    pub(crate) len: u32,
 }
 
-/// What a line of a script says.
+// What a line of a script says.
 #[derive(Clone, Copy, Debug, PartialEq, Eq)]
-pub enum Line {
+pub(crate) enum Line {
     Http(HttpLine),
     Step { drive: u32, moment: u64 },
     End,
@@ -70,8 +70,8 @@ fn drive_number(site: &ValidSite, name: &[u8]) -> Option<u32>
 // What the words behind `step` say.
 fn step_of(words: &[u8], site: &ValidSite) -> Option<(u32, u64)>
     ensures { MatchOption result
-        ((drive moment : ℕ) → IsStep site.now drive moment → step_words site.now drive moment ≢ words.now)
-        (λ s. IsStep site.now s.0 s.1 × (step_words site.now s.0 s.1 ≡ words.now)) }
+        ((drive moment : ℕ) → IsDriveStep site.now drive moment → step_words site.now drive moment ≢ words.now)
+        (λ s. IsDriveStep site.now s.0 s.1 × (step_words site.now s.0 s.1 ≡ words.now)) }
 {
     // A valid name holds no space.
     site.keeps_rules();
@@ -87,8 +87,8 @@ fn step_of(words: &[u8], site: &ValidSite) -> Option<(u32, u64)>
     Some((drive, moment))
 }
 
-/// What a line says, without its LF, for a site.
-pub fn line_of(line: &[u8], site: &ValidSite) -> Option<Line>
+// What a line says, without its LF, for a site.
+pub(crate) fn line_of(line: &[u8], site: &ValidSite) -> Option<Line>
     ensures { MatchOption result ((l : Line) → IsLine site.now l → text site.now l ≢ line.now)
         (λ l. IsLine site.now l × (text site.now l ≡ line.now)) }
 {

@@ -1,30 +1,31 @@
 // What is written for the events of a link.
-ghost use Rattle.std.specs.Prelude.{◌≡◌, ◌≤◌, MatchResult, IfOk, OnOk, string_bytes, codes, ◌++◌};
+ghost use Rattle.std.specs.Prelude.{◌≡◌, ◌≤◌, MatchResult, IfOk, OnOk, string_bytes, codes, [], ◌∷◌, ◌++◌};
 ghost use Rattle.std.specs.Fmt.{decimal};
 ghost use Rattle.std.specs.Io.KnownBytes.{Appends};
 ghost use Rattle.outside.specs.Causes.{Rose};
 ghost use Rattle.outside.specs.Streams.{AppendsFront};
 ghost use Rattle.cta_model.specs.Legal.{greatest_moment};
 ghost use Rattle.wire_http.specs.Reply.{reply_text, refusal_reply};
-ghost use Rattle.conn.specs.Stands.{next_events, given_by, request_view};
-ghost use Rattle.links.specs.Replies.{frame, after};
-ghost use Rattle.replay.specs.Output.{by_archive, request_reply, request_keeps};
-ghost use Rattle.replay.specs.Outcome.{Answered, Framed, told_on};
+ghost use Rattle.conn.specs.Cut.{Requests};
+ghost use Rattle.conn.specs.Stands.{next_events, given_by};
+ghost use Rattle.replay.specs.Seen.{sink_view};
+ghost use Rattle.replay.specs.Output.{frame};
+ghost use Rattle.replay.specs.Outcome.{AnswersEvents, IsFramed};
 ghost use Rattle.replay.specs.declared.output.Unwritten.TheVariants.{Broken};
 
 use crate::service::Service;
-use conn::{WireRefusal, refusal_reply, write_reply};
+use conn::{Next, continue_text};
 use cta_model::NoMemory;
-use links::{Next, Request};
 use outside::Sink;
 use std::alloc::Global;
+use wire_http::{Request, WireRefusal, refusal_reply, write_reply};
 
-/// Why not all replies were written.
+// Why not all replies were written.
 #[derive(Clone, Copy, Debug, PartialEq, Eq)]
-pub enum Unwritten {
-    /// The sink failed.
+pub(crate) enum Unwritten {
+    // The sink failed.
     Broken,
-    /// Memory was wanted.
+    // Memory was wanted.
     Wanting,
 }
 
@@ -32,32 +33,20 @@ pub enum Unwritten {
 fn line_before(alloc: Global, link: u32, len: usize) -> Result<String, NoMemory>
     ensures { IfOk result (λ s. string_bytes s ≡ codes "reply " ++ decimal link ++ codes " " ++ decimal len ++ codes "\n") }
 {
-    match format!(in alloc; "reply {link} {len}\n") {
-        Ok(line) => Ok(line),
-        Err(_) => Err(NoMemory),
-    }
-}
-
-// Adds bytes at the end.
-fn add(out: &mut Vec<u8>, bytes: &[u8]) -> Result<(), NoMemory>
-    ensures { OnOk result (out.new.items ≡ out.old.items ++ bytes.now) }
-{
-    match out.extend_from_slice(bytes) {
-        Ok(()) => Ok(()),
-        Err(_) => Err(NoMemory),
-    }
+    let line = format!(in alloc; "reply {link} {len}\n")?;
+    Ok(line)
 }
 
 // The frame of a reply on a link.
-#[tactic(auto, unfolding(links::specs::Replies::frame))]
+#[tactic(auto, unfolding(crate::specs::Output::frame))]
 fn frame_of(alloc: Global, link: u32, text: &[u8]) -> Result<Vec<u8>, NoMemory>
     ensures { IfOk result (λ v. v.items ≡ frame (record { link = link; text = text.now })) }
 {
     let line = line_before(alloc, link, text.len())?;
     let mut frame = Vec::new(alloc);
-    add(&mut frame, line.as_bytes())?;
-    add(&mut frame, text)?;
-    add(&mut frame, b"\n")?;
+    frame.extend_from_slice(line.as_bytes())?;
+    frame.extend_from_slice(text)?;
+    frame.extend_from_slice(b"\n")?;
     Ok(frame)
 }
 
@@ -75,7 +64,8 @@ fn put<K: Sink>(out: &mut K, bytes: &[u8]) -> Result<(), Unwritten>
 
 // Writes the frame of a reply on a link.
 fn put_reply<K: Sink>(alloc: Global, out: &mut K, link: u32, text: &[u8]) -> Result<(), Unwritten>
-    ensures framed { Framed result (K.written out.old) (K.written out.new) (K.faults out.old) (K.faults out.new) (record { link = link; text = text.now }) }
+    ensures framed { IsFramed result (sink_view (K.written out.old) (K.faults out.old)) (sink_view (K.written out.new) (K.faults out.new))
+        (record { link = link; text = text.now }) }
     ensures later { K.faults out.old ≤ K.faults out.new }
 {
     match frame_of(alloc, link, text) {
@@ -99,7 +89,7 @@ fn refuse<K: Sink>(
     link: u32,
     refusal: WireRefusal,
 ) -> Result<(), Unwritten>
-    ensures framed { Framed result (K.written out.old) (K.written out.new) (K.faults out.old) (K.faults out.new)
+    ensures framed { IsFramed result (sink_view (K.written out.old) (K.faults out.old)) (sink_view (K.written out.new) (K.faults out.new))
         (record { link = link; text = reply_text (refusal_reply refusal) }) }
     ensures later { K.faults out.old ≤ K.faults out.new }
 {
@@ -119,9 +109,8 @@ fn answer<K: Sink>(
     request: Request,
 ) -> Result<(), Unwritten>
     requires { moment ≤ greatest_moment }
-    ensures framed { Framed result (K.written out.old) (K.written out.new) (K.faults out.old) (K.faults out.new)
-        (record { link = link; text = request_reply service.old.archive moment (request_view request) }) }
-    ensures kept { OnOk result (service.new.archive ≡ request_keeps service.old.archive moment (request_view request)) }
+    ensures answered { AnswersEvents result service.old.archive service.new.archive link moment (Requests request ∷ [])
+        (sink_view (K.written out.old) (K.faults out.old)) (sink_view (K.written out.new) (K.faults out.new)) }
     ensures later { K.faults out.old ≤ K.faults out.new }
 {
     match service.answer(alloc, moment, request) {
@@ -140,23 +129,22 @@ fn answer_event<K: Sink>(
     event: Next,
 ) -> Result<(), Unwritten>
     requires { moment ≤ greatest_moment }
-    ensures answered { Answered result service.old.archive (K.written out.old) (K.written out.new) (K.faults out.old) (K.faults out.new)
-        (told_on link moment (next_events event)) }
-    ensures kept { OnOk result (service.new.archive ≡ after by_archive service.old.archive (told_on link moment (next_events event))) }
+    ensures answered { AnswersEvents result service.old.archive service.new.archive link moment (next_events event)
+        (sink_view (K.written out.old) (K.faults out.old)) (sink_view (K.written out.new) (K.faults out.new)) }
     ensures later { K.faults out.old ≤ K.faults out.new }
 {
     match event {
         Next::Need => Ok(()),
         Next::Closed => Ok(()),
-        Next::Continue => put_reply(alloc, out, link, b"HTTP/1.1 100 Continue\r\n\r\n"),
+        Next::Continue => put_reply(alloc, out, link, continue_text()),
         Next::Refused(refusal) => refuse(alloc, out, link, refusal),
         Next::Request(request) => answer(alloc, service, out, link, moment, request),
     }
 }
 
-/// Answers the events of a link in order, each at this moment on what those before it left, and writes the frame of each
-/// reply. An event is let go once it was answered.
-pub fn answer_events<K: Sink>(
+// Answers the events of a link in order, each at this moment on what those before it left, and writes the frame of each
+// reply. An event is let go once it was answered.
+pub(crate) fn answer_events<K: Sink>(
     alloc: Global,
     service: &mut Service,
     out: &mut K,
@@ -165,9 +153,8 @@ pub fn answer_events<K: Sink>(
     mut events: Vec<Next>,
 ) -> Result<(), Unwritten>
     requires { moment ≤ greatest_moment }
-    ensures answered { Answered result service.old.archive (K.written out.old) (K.written out.new) (K.faults out.old) (K.faults out.new)
-        (told_on link moment (given_by events.items)) }
-    ensures kept { OnOk result (service.new.archive ≡ after by_archive service.old.archive (told_on link moment (given_by events.items))) }
+    ensures answered { AnswersEvents result service.old.archive service.new.archive link moment (given_by events.items)
+        (sink_view (K.written out.old) (K.faults out.old)) (sink_view (K.written out.new) (K.faults out.new)) }
     ensures later { K.faults out.old ≤ K.faults out.new }
 {
     // The first event is then the last of the list, from which it is taken.

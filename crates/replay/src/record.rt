@@ -5,7 +5,8 @@ ghost use Rattle.links.specs.Standing.{StandFor};
 ghost use Rattle.replay.specs.Intake.{budget};
 ghost use Rattle.replay.specs.Line.{http_text, IsHttp};
 ghost use Rattle.replay.specs.Script.{ended};
-ghost use Rattle.replay.specs.Outcome.{world, Turns, TurnsAfter, TookLf, status_of, unwritten_status};
+ghost use Rattle.replay.specs.Seen.{script_view, sink_view, world};
+ghost use Rattle.replay.specs.Outcome.{Turns, TurnsAfter, TookLf, stop_status, unwritten_status};
 
 use crate::feeding::{FeedEnd, feed_record};
 use crate::front::Front;
@@ -13,12 +14,13 @@ use crate::intake::{LINE, LineEnd, Stop, take_byte, take_line};
 use crate::line::{HttpLine, Line, line_of};
 use crate::output::Unwritten;
 use crate::status::Status;
+use links::runs_follow;
 use outside::{Sink, Source};
 use std::alloc::Global;
 
 // The status for a script that gave no further byte.
 fn stopped(why: Stop, taken: u64) -> Status
-    ensures { result ≡ status_of why taken }
+    ensures { result ≡ stop_status why taken }
 {
     match why {
         Stop::End => Status::Script { offset: taken },
@@ -41,7 +43,7 @@ fn unwritten(why: Unwritten) -> Status
 // The last LF of a record.
 fn last_lf<S: Source>(script: &mut S, taken: &mut u64) -> Option<Status>
     requires { taken.old ≤ budget }
-    ensures lf { TookLf result (S.left script.old) (S.left script.new) taken.old taken.new (S.faults script.old) (S.faults script.new) }
+    ensures lf { TookLf result (script_view (S.left script.old) taken.old (S.faults script.old)) (script_view (S.left script.new) taken.new (S.faults script.new)) }
     ensures later { S.faults script.old ≤ S.faults script.new }
     ensures within { taken.new ≤ budget }
 {
@@ -69,11 +71,12 @@ fn http_record<S: Source, K: Sink>(
     requires buffer { 0 < length buffer.old }
     ensures turns { (before : List Turn) → StandFor front.old.links front.old.service.archive.site.limits.file before
         → TurnsAfter result front.new.links front.old.service.archive front.new.service.archive before (ended (http_text line.link line.moment line.len))
-        (world (S.left script.old) taken.old (S.faults script.old) (K.written out.old) (K.faults out.old))
-        (world (S.left script.new) taken.new (S.faults script.new) (K.written out.new) (K.faults out.new)) }
+        (world (script_view (S.left script.old) taken.old (S.faults script.old)) (sink_view (K.written out.old) (K.faults out.old)))
+        (world (script_view (S.left script.new) taken.new (S.faults script.new)) (sink_view (K.written out.new) (K.faults out.new))) }
     ensures later { (S.faults script.old ≤ S.faults script.new) × (K.faults out.old ≤ K.faults out.new) }
     ensures within { taken.new ≤ budget }
 {
+    runs_follow();
     match feed_record(alloc, front, script, taken, out, buffer, line) {
         FeedEnd::All => last_lf(script, taken),
         FeedEnd::Part(why) => Some(stopped(why, *taken)),
@@ -81,8 +84,8 @@ fn http_record<S: Source, K: Sink>(
     }
 }
 
-/// Reads one record and answers what it completes, or ends the script. `buffer` is room for a piece of a record's bytes.
-pub fn one_record<S: Source, K: Sink>(
+// Reads one record and answers what it completes, or ends the script. `buffer` is room for a piece of a record's bytes.
+pub(crate) fn one_record<S: Source, K: Sink>(
     alloc: Global,
     front: &mut Front,
     script: &mut S,
@@ -94,8 +97,8 @@ pub fn one_record<S: Source, K: Sink>(
     requires buffer { 0 < length buffer.old }
     ensures turns { (before : List Turn) → StandFor front.old.links front.old.service.archive.site.limits.file before
         → Turns result front.new.links front.old.service.archive front.new.service.archive before
-        (world (S.left script.old) taken.old (S.faults script.old) (K.written out.old) (K.faults out.old))
-        (world (S.left script.new) taken.new (S.faults script.new) (K.written out.new) (K.faults out.new)) }
+        (world (script_view (S.left script.old) taken.old (S.faults script.old)) (sink_view (K.written out.old) (K.faults out.old)))
+        (world (script_view (S.left script.new) taken.new (S.faults script.new)) (sink_view (K.written out.new) (K.faults out.new))) }
     ensures later { (S.faults script.old ≤ S.faults script.new) × (K.faults out.old ≤ K.faults out.new) }
     ensures within { taken.new ≤ budget }
 {

@@ -2,11 +2,14 @@
 ghost use Rattle.std.specs.Prelude.{◌≡◌, ◌<◌, [], length};
 ghost use Rattle.links.specs.Standing.{LinksStand};
 ghost use Rattle.replay.specs.Output.{fresh};
+ghost use Rattle.replay.specs.Seen.{source_view, sink_view};
 ghost use Rattle.replay.specs.Outcome.{Replays};
 
 use crate::front::Front;
+use crate::laws::runs_keep_legal_histories;
 use crate::record::one_record;
 use crate::status::Status;
+use links::runs_follow;
 use outside::{Sink, Source};
 use std::alloc::Global;
 
@@ -24,9 +27,11 @@ fn run_records<S: Source, K: Sink>(
     requires archive { front.old.service.archive ≡ fresh front.old.service.archive.site }
     requires links { LinksStand front.old.links front.old.service.archive.site.limits.file (λ link. []) (λ link. []) }
     requires buffer { 0 < length buffer.old }
-    ensures { Replays result front.old.service.archive.site (S.left script.old) (S.left script.new) (S.faults script.old) (S.faults script.new)
-        (K.written out.old) (K.written out.new) (K.faults out.old) (K.faults out.new) }
+    ensures { Replays result front.old.service.archive.site (source_view (S.left script.old) (S.faults script.old)) (source_view (S.left script.new) (S.faults script.new))
+        (sink_view (K.written out.old) (K.faults out.old)) (sink_view (K.written out.new) (K.faults out.new)) }
 {
+    runs_follow();
+    runs_keep_legal_histories();
     let mut taken = 0;
     'records: loop {
         if let Some(status) = one_record(alloc, front, script, &mut taken, out, buffer) {
@@ -35,9 +40,9 @@ fn run_records<S: Source, K: Sink>(
     }
 }
 
-/// Reads a script up to its end, and writes what an archive that has kept nothing yet answers on links of which nothing was
-/// read.
-pub fn run_script<S: Source, K: Sink>(
+// Reads a script up to its end, and writes what an archive that has kept nothing yet answers on links of which nothing was
+// read.
+pub(crate) fn run_script<S: Source, K: Sink>(
     alloc: Global,
     front: &mut Front,
     script: &mut S,
@@ -45,8 +50,8 @@ pub fn run_script<S: Source, K: Sink>(
 ) -> Status
     requires archive { front.old.service.archive ≡ fresh front.old.service.archive.site }
     requires links { LinksStand front.old.links front.old.service.archive.site.limits.file (λ link. []) (λ link. []) }
-    ensures { Replays result front.old.service.archive.site (S.left script.old) (S.left script.new) (S.faults script.old) (S.faults script.new)
-        (K.written out.old) (K.written out.new) (K.faults out.old) (K.faults out.new) }
+    ensures { Replays result front.old.service.archive.site (source_view (S.left script.old) (S.faults script.old)) (source_view (S.left script.new) (S.faults script.new))
+        (sink_view (K.written out.old) (K.faults out.old)) (sink_view (K.written out.new) (K.faults out.new)) }
 {
     match vec![in alloc; 0u8; PIECE] {
         Ok(mut buffer) => run_records(alloc, front, script, out, &mut buffer),

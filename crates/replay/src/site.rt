@@ -1,6 +1,7 @@
 // The site file, read whole.
 ghost use Rattle.std.specs.Prelude.{◌≡◌, [], MatchResult};
 ghost use Rattle.cta_site.specs.Faults.{IsCauseOf};
+ghost use Rattle.replay.specs.Seen.{source_view};
 ghost use Rattle.replay.specs.SiteFile.{ArchiveMade, IsSiteOf, IsStatusOf, SiteRead, TookSite, site_fault};
 
 use crate::status::Status;
@@ -16,23 +17,23 @@ const SITE_LIMIT: usize = 16_777_216;
 // The most bytes that are taken at a time.
 const PIECE: usize = 4096;
 
-/// How the reading of a site file ended.
+// How the reading of a site file ended.
 #[derive(Clone, Copy, Debug, PartialEq, Eq)]
-pub enum SiteEnd {
-    /// It was read to its end.
+pub(crate) enum SiteEnd {
+    // It was read to its end.
     Whole,
-    /// It has more bytes than a site file may have.
+    // It has more bytes than a site file may have.
     Long,
-    /// Its source failed.
+    // Its source failed.
     Fault,
-    /// Memory was wanted.
+    // Memory was wanted.
     Memory,
 }
 
 // The whole site file, put into `bytes`, or one byte more than it may have.
 fn take_site<A: Source>(site: &mut A, bytes: &mut Vec<u8>) -> SiteEnd
     requires { bytes.old.items ≡ [] }
-    ensures { TookSite result (A.left site.old) (A.left site.new) (A.faults site.old) (A.faults site.new) bytes.new.items }
+    ensures { TookSite result (source_view (A.left site.old) (A.faults site.old)) (source_view (A.left site.new) (A.faults site.new)) bytes.new.items }
 {
     let mut piece = [0u8; PIECE];
     while bytes.len() <= SITE_LIMIT {
@@ -83,9 +84,9 @@ fn archive_of(alloc: Global, bytes: &[u8]) -> Result<Archive, Status>
     }
 }
 
-/// An archive of the site that a site file tells, which has kept nothing yet, or why there is none.
-pub fn read_archive<A: Source>(alloc: Global, site: &mut A) -> Result<Archive, Status>
-    ensures { SiteRead result (A.left site.old) (A.left site.new) (A.faults site.old) (A.faults site.new) }
+// An archive of the site that a site file tells, which has kept nothing yet, or why there is none.
+pub(crate) fn read_archive<A: Source>(alloc: Global, site: &mut A) -> Result<Archive, Status>
+    ensures { SiteRead result (source_view (A.left site.old) (A.faults site.old)) (source_view (A.left site.new) (A.faults site.new)) }
 {
     let mut bytes = Vec::new(alloc);
     match take_site(site, &mut bytes) {

@@ -2,6 +2,7 @@
 ghost use Rattle.std.specs.Prelude.{◌≡◌, map, string_bytes};
 ghost use Rattle.replay.specs.Outcome.{Replays};
 ghost use Rattle.replay.specs.Output.{fresh};
+ghost use Rattle.replay.specs.Seen.{source_view, sink_view};
 ghost use Rattle.replay.specs.Top.{handed, Runs, RunsWhole};
 
 use crate::front::Front;
@@ -22,8 +23,8 @@ fn run_archive<S: Source, K: Sink>(
     out: &mut K,
 ) -> Status
     requires { archive ≡ fresh archive.site }
-    ensures { Replays result archive.site (S.left script.old) (S.left script.new) (S.faults script.old) (S.faults script.new)
-        (K.written out.old) (K.written out.new) (K.faults out.old) (K.faults out.new) }
+    ensures { Replays result archive.site (source_view (S.left script.old) (S.faults script.old)) (source_view (S.left script.new) (S.faults script.new))
+        (sink_view (K.written out.old) (K.faults out.old)) (sink_view (K.written out.new) (K.faults out.new)) }
 {
     match Front::new(alloc, archive) {
         Ok(mut front) => run_script(alloc, &mut front, script, out),
@@ -40,8 +41,8 @@ fn replay_site<A: Source, S: Source, K: Sink>(
     out: &mut K,
 ) -> Status
     ensures { Runs result (map string_bytes words.now)
-        (handed (A.left site_bytes.old) (A.faults site_bytes.old) (S.left script.old) (S.faults script.old) (K.written out.old) (K.faults out.old))
-        (handed (A.left site_bytes.new) (A.faults site_bytes.new) (S.left script.new) (S.faults script.new) (K.written out.new) (K.faults out.new)) }
+        (handed (source_view (A.left site_bytes.old) (A.faults site_bytes.old)) (source_view (S.left script.old) (S.faults script.old)) (sink_view (K.written out.old) (K.faults out.old)))
+        (handed (source_view (A.left site_bytes.new) (A.faults site_bytes.new)) (source_view (S.left script.new) (S.faults script.new)) (sink_view (K.written out.new) (K.faults out.new))) }
 {
     let Ok(is_form) = is_replay_form(alloc, words) else {
         return Status::NoMemory;
@@ -96,12 +97,12 @@ pub fn replay_top<A: Source, S: Source, K: Sink>(
 ) -> Status
     // Which status comes when, what was taken then and what was written.
     ensures runs { Runs result (map string_bytes words.now)
-        (handed (A.left site_bytes.old) (A.faults site_bytes.old) (S.left script.old) (S.faults script.old) (K.written out.old) (K.faults out.old))
-        (handed (A.left site_bytes.new) (A.faults site_bytes.new) (S.left script.new) (S.faults script.new) (K.written out.new) (K.faults out.new)) }
+        (handed (source_view (A.left site_bytes.old) (A.faults site_bytes.old)) (source_view (S.left script.old) (S.faults script.old)) (sink_view (K.written out.old) (K.faults out.old)))
+        (handed (source_view (A.left site_bytes.new) (A.faults site_bytes.new)) (source_view (S.left script.new) (S.faults script.new)) (sink_view (K.written out.new) (K.faults out.new))) }
     // A whole script is run to its end, unless something fails or memory is wanted.
     ensures whole { RunsWhole result (map string_bytes words.now)
-        (handed (A.left site_bytes.old) (A.faults site_bytes.old) (S.left script.old) (S.faults script.old) (K.written out.old) (K.faults out.old))
-        (handed (A.left site_bytes.new) (A.faults site_bytes.new) (S.left script.new) (S.faults script.new) (K.written out.new) (K.faults out.new)) }
+        (handed (source_view (A.left site_bytes.old) (A.faults site_bytes.old)) (source_view (S.left script.old) (S.faults script.old)) (sink_view (K.written out.old) (K.faults out.old)))
+        (handed (source_view (A.left site_bytes.new) (A.faults site_bytes.new)) (source_view (S.left script.new) (S.faults script.new)) (sink_view (K.written out.new) (K.faults out.new))) }
 {
     one_numbering();
     replay_site(alloc, words, site_bytes, script, out)

@@ -6,8 +6,8 @@ use cta_model::NoMemory;
 use cta_words::{Form, WordsError, read_words};
 use std::alloc::Global;
 
-/// Whether the words are `replay SITE`.
-pub fn is_replay_form(alloc: Global, words: &[String]) -> Result<bool, NoMemory>
+// Whether the words are `replay SITE`.
+pub(crate) fn is_replay_form(alloc: Global, words: &[String]) -> Result<bool, NoMemory>
     ensures { IfOk result (λ is_form. IsTrue is_form ↔ IsReplayForm (map string_bytes words.now)) }
 {
     match read_words(alloc, words) {

@@ -1,5 +1,5 @@
 use Rattle.std.proofs.Common.{take}
-use Rattle.replay.specs.Bytes.{Without}
+use Rattle.cta_site.specs.Bytes.{Without}
 use Rattle.replay.proofs.bytes.first_part.Given as goal
 
 abbrev pub invariant-loop-i : goal.invariant-loop-i

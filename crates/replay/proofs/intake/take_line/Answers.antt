@@ -1,5 +1,5 @@
 use Rattle.std.proofs.Common.{◌≡◌, ◌∷◌, ◌++◌, [], take, arith, length-append, length-take}
-use Rattle.replay.specs.Bytes.{Without}
+use Rattle.cta_site.specs.Bytes.{Without}
 use Rattle.replay.proofs.Parts.{Without-append}
 use Rattle.replay.proofs.Taking.{Took-trans}
 use Rattle.replay.proofs.intake.take_line.Goals as goal

@@ -2,4 +2,4 @@ use Rattle.replay.proofs.OneOutput.{links_apart}
 use Rattle.replay.proofs.laws.links_apart.Goals as goal
 
 pub returns : goal.returns
-returns c = links_apart c.replies_apart.ensures.replies c.replies_apart.ensures.events
+returns c = links_apart

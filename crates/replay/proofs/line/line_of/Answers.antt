@@ -2,7 +2,7 @@ use Rattle.std.proofs.Common.{◌≡◌, ℕ, List, codes, sym, ◌∙◌, arith
 use Rattle.cta_site.specs.declared.site.Site.{Site}
 use Rattle.replay.specs.declared.line.Line.{Line}
 use Rattle.replay.specs.declared.line.Line.TheVariants.{Http, Step, End}
-use Rattle.replay.specs.Bytes.{Without}
+use Rattle.cta_site.specs.Bytes.{Without}
 use Rattle.replay.specs.Line.{text, http_words, step_words, then_word}
 use Rattle.replay.proofs.Parts.{same_words, no_word, differ}
 use Rattle.replay.proofs.line.line_of.Goals as goal

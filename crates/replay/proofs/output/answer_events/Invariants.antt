@@ -1,13 +1,14 @@
 use Rattle.std.proofs.Common.{◌≤◌, vec_len}
 use Rattle.std.specs.Prelude.{reverse}
 use Rattle.conn.specs.Stands.{given_by}
+use Rattle.replay.specs.Seen.{sink_view}
 use Rattle.replay.proofs.Writing.{AnsweredSoFar}
 use Rattle.replay.proofs.output.answer_events.Given as goal
 
 abbrev pub invariant-events : goal.invariant-events
 invariant-events g l = record {
   so_far : AnsweredSoFar l.initial.service.archive l.service.archive l.link l.moment (given_by l.fn.events.items) (given_by (reverse l.events.items))
-      (g.K.Sink.written l.initial.out) (g.K.Sink.written l.out);
+      (sink_view (g.K.Sink.written l.initial.out) (g.K.Sink.faults l.initial.out)) (sink_view (g.K.Sink.written l.out) (g.K.Sink.faults l.out));
   later : g.K.Sink.faults l.initial.out ≤ g.K.Sink.faults l.out;
 }
 
