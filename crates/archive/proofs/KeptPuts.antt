@@ -17,7 +17,7 @@ use Rattle.cta_model.specs.declared.answers.Refusal.{Refusal}
 use Rattle.cta_model.specs.declared.answers.Refusal.TheVariants as refusal
 use Rattle.cta_model.specs.History.{History, entry_of, moment_of, weight_of, weight_of_entry, is_number}
 use Rattle.cta_model.specs.Files.{live_file, live_after, path_in, path_of, sum_in, entry_sum, size_of, is_live}
-use Rattle.cta_model.specs.Buffer.{brings_in, arrival_of, last_arrival}
+use Rattle.cta_model.specs.Buffer.{brings_in, evicts, arrival_of, last_arrival}
 use Rattle.cta_model.specs.Space.{file_brought, arrived_in, resident_files, size_of_files, free_space, evictable_size, evicted_for}
 use Rattle.cta_site.specs.Paths.{is_path}
 use Rattle.cta_model.specs.Answers.{refuse, answer_of, put_answer, is_accepted, is_built, is_too_heavy}
@@ -133,10 +133,14 @@ brings_in_put : (k : Ask) (a : Answer) (n f : ℕ) → is_built k ≡ true → b
 brings_in_put (ask.Put who path sum) a n f put = refl
 brings_in_put _ a n f put = true_false (sym put)
 
+evicts_put : (k : Ask) (f : ℕ) → is_built k ≡ true → evicts k (answer.Stored (rows [])) f ≡ false
+evicts_put (ask.Put who path sum) f put = refl
+evicts_put _ f put = true_false (sym put)
+
 last_arrival-puts : (h : History) (n : ℕ) → ArePuts h → 1 ≤ n → n ≤ length h → last_arrival h n ≡ Some n
 last_arrival-puts [] n puts one low = absurd (omega arith)
 last_arrival-puts (e ∷ h) n puts one low =
-    rw (brings_in_put e.ask e.answer (length h + 1) n puts.1.built) (rw puts.1.stored (
+    rw (brings_in_put e.ask e.answer (length h + 1) n puts.1.built) (rw (ap (λ (a : Answer). evicts e.ask a n) puts.1.stored ∙ evicts_put e.ask n puts.1.built) (
     elim (eqb_tells (length h + 1) n) [
       | inl same ↦ rw same.0 (ap Some same.1)
       | inr other ↦ (let older : n ≤ length h = omega (arith, other.1) in rw other.0 (last_arrival-puts h n puts.0 one older))

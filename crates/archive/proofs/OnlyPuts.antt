@@ -1,15 +1,16 @@
 -- What holds of a history of Puts alone: nothing is on tape, mounted or evictable.
-use Rattle.std.specs.Prelude.{◌≡◌, ℕ, zero, suc, refl, List, [], ◌∷◌, None, Bool, true, false, ◌&&◌, not, filter, if◌then◌else◌}
+use Rattle.std.specs.Prelude.{◌≡◌, ℕ, zero, suc, refl, List, [], ◌∷◌, None, Bool, true, false, ◌&&◌, not, filter, filter_map, if◌then◌else◌}
 use Rattle.std.proofs.Common.{◌∙◌}
 use Rattle.cta_site.specs.declared.site.Site.{Site}
 use Rattle.cta_model.specs.declared.asks.Ask.{Ask}
 use Rattle.cta_model.specs.declared.asks.Ask.TheVariants as ask
 use Rattle.cta_model.specs.declared.answers.Answer.{Answer}
 use Rattle.cta_model.specs.History.{History, next_number}
-use Rattle.cta_model.specs.Files.{is_live, copies_of_file}
+use Rattle.cta_model.specs.Files.{is_live, copy_numbers}
 use Rattle.cta_model.specs.Mounts.{open_mounts, open_after}
-use Rattle.cta_model.specs.Places.{flushed_in, last_flushed, place_of, places_up_to, places_of, is_taped}
-use Rattle.cta_model.specs.Space.{may_be_evicted, evictable_files, evictable_size, evicted_for, prefix_of_size, resident_files, bytes_to_read, is_pinned, has_archive_job}
+use Rattle.cta_model.specs.Places.{flushed_in, last_flushed, place_of, places_of, is_taped}
+use Rattle.cta_model.specs.Space.{may_be_evicted, evictable_files, evictable_size, evicted_for, prefix_of_size, resident_files, bytes_to_read, has_archive_job}
+use Rattle.cta_model.specs.Pins.{is_pinned}
 use Rattle.cta_model.specs.Answers.{is_built}
 use Rattle.cta_model.specs.Kept.{AreBuilt}
 
@@ -27,12 +28,12 @@ place_of-built : (h : History) (f c : ℕ) → AreBuilt h → place_of h f c ≡
 place_of-built h f c built =
     elim (is_live h f) as (λ b. (if b then last_flushed h f c else None) ≡ None) [ true ↦ last_flushed-built h f c built | false ↦ refl ]
 
-places_up_to-built : (h : History) (f n : ℕ) → AreBuilt h → places_up_to h f n ≡ []
-places_up_to-built h f zero built = refl
-places_up_to-built h f (suc n) built = rw (places_up_to-built h f n built) (rw (place_of-built h f (suc n) built) refl)
+places-built : (h : History) (f : ℕ) (copies : List ℕ) → AreBuilt h → filter_map (place_of h f) copies ≡ []
+places-built h f [] built = refl
+places-built h f (c ∷ copies) built = rw (place_of-built h f c built) (places-built h f copies built)
 
 places_of-built : (site : Site) (h : History) (f : ℕ) → AreBuilt h → places_of site h f ≡ []
-places_of-built site h f built = rw (places_up_to-built h f (copies_of_file site h f) built) refl
+places_of-built site h f built = rw (places-built h f (copy_numbers site h f) built) refl
 
 -- ---- nothing is evictable
 
@@ -43,7 +44,7 @@ and_false false b c = refl
 
 may_be_evicted-built : (site : Site) (h : History) (t f : ℕ) → AreBuilt h → may_be_evicted site h t f ≡ false
 may_be_evicted-built site h t f built =
-    rw (places_of-built site h f built) (and_false (not (is_pinned site h t f)) (is_taped site h f) (not (has_archive_job site h f (copies_of_file site h f))))
+    rw (places_of-built site h f built) (and_false (not (is_pinned site h t f)) (is_taped site h f) (not (has_archive_job site h f)))
 
 filter-none : (test : ℕ → Bool) → ((n : ℕ) → test n ≡ false) → (ns : List ℕ) → filter test ns ≡ []
 filter-none test none [] = refl

@@ -1,7 +1,7 @@
 // Which files are in the buffer, by scanning the entries.
 ghost use Rattle.std.specs.Prelude.{◌≡◌, ◌^◌, ◌<◌, length};
 ghost use Rattle.cta_model.specs.Bare.{bare_ask, bare_answer};
-ghost use Rattle.cta_model.specs.Buffer.{arrival_after, brings_in, is_resident, last_arrival, lists_evicted};
+ghost use Rattle.cta_model.specs.Buffer.{arrival_after, brings_in, is_resident, last_arrival, evicts};
 ghost use Rattle.cta_model.specs.History.{has_number};
 ghost use Rattle.cta_model.specs.Newest.{history_in};
 
@@ -29,13 +29,13 @@ fn has_number(number: u32, numbers: &[u32]) -> bool
     }
 }
 
-// Whether an answer lists the file as evicted.
-fn lists_evicted(answer: &Answer, file: u32) -> bool
-    ensures { result ≡ lists_evicted (bare_answer answer.now) file }
+// Whether the entry evicts the file.
+fn evicts(entry: &Entry, file: u32) -> bool
+    ensures { result ≡ evicts (bare_ask entry.now.ask) (bare_answer entry.now.answer) file }
 {
-    match answer {
-        Answer::Stored { evicted } => has_number(file, evicted.as_slice()),
-        Answer::Batch { evicted, .. } => has_number(file, evicted.as_slice()),
+    match (&entry.ask, &entry.answer) {
+        (Ask::Put { .. }, Answer::Stored { evicted }) => has_number(file, evicted.as_slice()),
+        (Ask::Claim { .. }, Answer::Batch { evicted, .. }) => has_number(file, evicted.as_slice()),
         _ => false,
     }
 }
@@ -52,7 +52,7 @@ fn arrival_after(brought: bool, evicted: bool, number: u32, before: Option<u32>)
     }
 }
 
-// The last entry that brought the file in, where no later answer lists it as evicted.
+// The last entry that brought the file in, where no later one evicts it.
 #[tactic(auto, using(cta_model::proofs::Newest::scans))]
 fn last_arrival(entries: &[Entry], file: u32) -> Option<u32>
     requires { length entries.now < 2 ^ 32 }
@@ -63,7 +63,7 @@ fn last_arrival(entries: &[Entry], file: u32) -> Option<u32>
     for entry in entries {
         number += 1;
         let brought = brings_in(entry, number, file);
-        let evicted = lists_evicted(&entry.answer, file);
+        let evicted = evicts(entry, file);
         arrival = arrival_after(brought, evicted, number, arrival);
     }
     arrival

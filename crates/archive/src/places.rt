@@ -3,7 +3,8 @@ ghost use Rattle.std.specs.Prelude.{◌≡◌, ◌^◌, ◌<◌, None, length, z
 ghost use Rattle.cta_model.specs.Bare.{bare_ask, bare_answer};
 ghost use Rattle.cta_model.specs.Files.{copies_of_file};
 ghost use Rattle.cta_model.specs.Newest.{history_in};
-ghost use Rattle.cta_model.specs.Places.{copies_flushed, flushed_in, fseq_after, is_taped, last_flushed, place_after, place_of};
+ghost use Rattle.archive.specs.Scans.{copies_flushed};
+ghost use Rattle.cta_model.specs.Places.{flushed_in, fseq_after, is_taped, last_flushed, place_after, place_of};
 ghost use Rattle.cta_model.specs.Mounts.{asked_mount, tape_of_mount};
 
 use crate::entries::{asked_mount, tape_of_mount};
@@ -92,6 +93,7 @@ pub(crate) fn place_of(entries: &[Entry], file: u32, copy: u8) -> Option<Place>
 }
 
 // Whether each of the copies of a file from 1 on was flushed.
+#[tactic(auto, using(crate::proofs::Copies::copy_by_copy))]
 fn copies_flushed(entries: &[Entry], file: u32, copies: u8) -> bool
     ensures { result ≡ copies_flushed (history_in entries.now) file copies }
 {

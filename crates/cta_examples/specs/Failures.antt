@@ -7,7 +7,7 @@ use Rattle.cta_model.specs.declared.asks.Fault.{Fault}
 use Rattle.cta_model.specs.declared.asks.Fault.TheVariants as fault
 use Rattle.cta_model.specs.History.{History}
 use Rattle.cta_model.specs.Recalls.{recall_job}
-use Rattle.cta_model.specs.Jobs.{job_of}
+use Rattle.cta_model.specs.Mounts.{job_of}
 use Rattle.cta_model.specs.Kept.{history_of}
 use Rattle.cta_model.specs.Examples.{one_copy_site, somebody, sum_of_size, put_a, put_b, delete_of, stage_a, first_job, first_item, item_of, archive_one, a_to_tape_alone}
 use Rattle.cta_examples.specs.Sites.{small_buffer_site, small_two_copy_site, one_try_site}

@@ -3,7 +3,7 @@ use Rattle.std.specs.Prelude.{[], ◌∷◌, ◌++◌, codes}
 use Rattle.cta_site.specs.declared.site.TapeState.TheVariants as state
 use Rattle.cta_model.specs.declared.asks.Fault.TheVariants as fault
 use Rattle.cta_model.specs.History.{History}
-use Rattle.cta_model.specs.Jobs.{job_of}
+use Rattle.cta_model.specs.Mounts.{job_of}
 use Rattle.cta_model.specs.Kept.{history_of}
 use Rattle.cta_model.specs.Examples.{one_copy_site, two_tape_site, put_a, delete_of, stage_a, first_item, item_of, archive_one, a_to_tape_alone}
 use Rattle.cta_examples.specs.Sites.{small_buffer_site, small_two_copy_site}

@@ -8,7 +8,7 @@ ghost use Rattle.cta_model.specs.Answers.{answer_of};
 ghost use Rattle.cta_model.specs.Charges.{charges_of};
 ghost use Rattle.cta_model.specs.Examples.{first_job, one_copy_site};
 ghost use Rattle.cta_model.specs.History.{weight_of};
-ghost use Rattle.cta_model.specs.Jobs.{job_of};
+ghost use Rattle.cta_model.specs.Mounts.{job_of};
 ghost use Rattle.cta_model.specs.Legal.{IsLegal};
 ghost use Rattle.cta_model.specs.Localities.{locality_of};
 ghost use Rattle.cta_model.specs.Looks.{look_answer_of};

@@ -5,7 +5,7 @@ ghost use Rattle.cta_examples.specs.Sites.{small_buffer_site, small_two_copy_sit
 ghost use Rattle.cta_examples.specs.Tapes.{empty_repack, item_deleted, one_source_left, repack_lost, repack_waits, reclaimed, repack_write_failed, repacked, repacking, tape_active_again, tape_disabled, tape_lost, to_be_repacked, two_sources};
 ghost use Rattle.cta_model.specs.Answers.{answer_of};
 ghost use Rattle.cta_model.specs.Examples.{one_copy_site, two_tape_site};
-ghost use Rattle.cta_model.specs.Jobs.{job_of};
+ghost use Rattle.cta_model.specs.Mounts.{job_of};
 ghost use Rattle.cta_model.specs.Legal.{IsLegal};
 ghost use Rattle.cta_model.specs.Localities.{locality_of};
 ghost use Rattle.cta_model.specs.Looks.{look_answer_of};

@@ -40,12 +40,12 @@ taken_size h (suc n) room (j ∷ q) =
       | inr large ↦ rw large (taken_size h (suc n) room q)
     ]
 
-written_size : (h : History) (s : ℕ) (js : List Job) → total size_in (written_items h s js) ≡ total (file_size h) js
+pub written_size : (h : History) (s : ℕ) (js : List Job) → total size_in (written_items h s js) ≡ total (file_size h) js
 unfolding total
 written_size h s [] = refl
 written_size h s (j ∷ js) = ap (λ (n : ℕ). size_of h j.file + n) (written_size h (s + 1) js)
 
-written_fits : (site : Site) (h : History) (t v : ℕ) → size_of_items (batch_by site h t direction.Archive v) ≤ capacity_of site v - used_bytes h v
+pub written_fits : (site : Site) (h : History) (t v : ℕ) → size_of_items (batch_by site h t direction.Archive v) ≤ capacity_of site v - used_bytes h v
 written_fits site h t v =
     let q : List Job = taken_of h site.limits.batch_files (capacity_of site v - used_bytes h v) (queue_of site h direction.Archive (pool_of_tape site v)) in
     rw (size_is (written_items h (next_fseq h v) (taken_of h site.limits.batch_files (capacity_of site v - used_bytes h v) (queue_of site h direction.Archive (pool_of_tape site v)))), written_size h (next_fseq h v) (taken_of h site.limits.batch_files (capacity_of site v - used_bytes h v) (queue_of site h direction.Archive (pool_of_tape site v))))
@@ -53,10 +53,10 @@ written_fits site h t v =
 
 -- ---- what a Claim takes on a tape
 
-abbrev writes_on : ℕ → Mount → Bool
+abbrev pub writes_on : ℕ → Mount → Bool
 writes_on v x = same_direction x.direction direction.Archive && x.tape == v
 
-batch_fits : (site : Site) (h : History) (t v : ℕ) (x : Mount) (items : List Item) → items ≡ batch_of site h t x → writes_on v x ≡ true → size_of_items items ≤ capacity_of site v - used_bytes h v
+pub batch_fits : (site : Site) (h : History) (t v : ℕ) (x : Mount) (items : List Item) → items ≡ batch_of site h t x → writes_on v x ≡ true → size_of_items items ≤ capacity_of site v - used_bytes h v
 batch_fits site h t v x items is test =
     let parts : (same_direction x.direction direction.Archive ≡ true) × (x.tape == v ≡ true) = and_parts _ _ test in
     let way : x.direction ≡ direction.Archive = same_way x.direction direction.Archive parts.0 in
@@ -64,11 +64,11 @@ batch_fits site h t v x items is test =
     let made : items ≡ batch_by site h t direction.Archive v = is ∙ ap (λ (w : Direction). batch_by site h t w x.tape) way ∙ ap (batch_by site h t direction.Archive) tape in
     subst (λ (xs : List Item). size_of_items xs ≤ capacity_of site v - used_bytes h v) (sym made) (written_fits site h t v)
 
-if_claim : (b : Bool) (n room : ℕ) → (b ≡ true → n ≤ room) → (if b then n else 0) ≤ room
+pub if_claim : (b : Bool) (n room : ℕ) → (b ≡ true → n ≤ room) → (if b then n else 0) ≤ room
 if_claim true n room fits = fits refl
 if_claim false n room fits = omega arith
 
-took_fits : (site : Site) (h : History) (t v : ℕ) (k : Ask) (a : Answer) → a ≡ answer_of site h t k → if_asked (writes_on v) h k (took k a) ≤ capacity_of site v - used_bytes h v
+pub took_fits : (site : Site) (h : History) (t v : ℕ) (k : Ask) (a : Answer) → a ≡ answer_of site h t k → if_asked (writes_on v) h k (took k a) ≤ capacity_of site v - used_bytes h v
 took_fits site h t v (ask.Claim m) (answer.Batch items evicted) is =
     let b : IsBatch site h (moment_of h t) (mount_of h m) items.items = claim_is_batch site h t m items evicted is in
     if_claim (is_mount (writes_on v) (mount_of h m)) (size_of_items items.items) (capacity_of site v - used_bytes h v)
@@ -77,14 +77,14 @@ took_fits site h t v k a is = if_claim (is_mount (writes_on v) (mount_of h (aske
 
 -- ---- what a Flushed puts on a tape
 
-put_on : History → ℕ → Ask → ℕ
+pub put_on : History → ℕ → Ask → ℕ
 put_on h v (ask.Flushed m items) = if tape_of_mount h m == v then size_of_items items.items else 0
 put_on h v _ = 0
 
-size_append : (xs ys : List Item) → size_of_items (xs ++ ys) ≡ size_of_items xs + size_of_items ys
+pub size_append : (xs ys : List Item) → size_of_items (xs ++ ys) ≡ size_of_items xs + size_of_items ys
 size_append xs ys = rw (size_is (xs ++ ys), size_is xs, size_is ys) (total_append size_in xs ys)
 
-tape_size : (h : History) (v : ℕ) (k : Ask) (before : List Item) → size_of_items (items_after k v (tape_of_mount h (asked_mount k)) before) ≤ size_of_items before + put_on h v k
+pub tape_size : (h : History) (v : ℕ) (k : Ask) (before : List Item) → size_of_items (items_after k v (tape_of_mount h (asked_mount k)) before) ≤ size_of_items before + put_on h v k
 unfolding put_on
 tape_size h v (ask.Flushed m items) before =
     elim (bool_cases (tape_of_mount h m == v)) [ inl hit ↦ rw hit (omega (arith, size_append before items.items)) | inr miss ↦ rw miss (omega arith) ]
@@ -92,14 +92,14 @@ tape_size h v (ask.Reclaim who u) before =
     elim (bool_cases (u == v)) [ inl hit ↦ rw hit (omega arith) | inr miss ↦ rw miss (omega arith) ]
 tape_size h v _ before = omega arith
 
-mount_gives : (o : Option Mount) (v n : ℕ) → IsMountOf direction.Archive o → (if tape_by o == v then n else 0) ≤ (if is_mount (writes_on v) o then n else 0)
+pub mount_gives : (o : Option Mount) (v n : ℕ) → IsMountOf direction.Archive o → (if tape_by o == v then n else 0) ≤ (if is_mount (writes_on v) o then n else 0)
 mount_gives None v n way = absurd way
 mount_gives (Some x) v n way = subst (λ (w : Direction). (if x.tape == v then n else 0) ≤ (if same_direction w direction.Archive && x.tape == v then n else 0)) (sym way) (same (if x.tape == v then n else 0))
   where
     same : (m : ℕ) → m ≤ m
     same m = omega arith
 
-put_gives : (site : Site) (h : History) (v : ℕ) (k : Ask) → IsFit site h k → put_on h v k ≤ if_asked (writes_on v) h k (gave h k)
+pub put_gives : (site : Site) (h : History) (v : ℕ) (k : Ask) → IsFit site h k → put_on h v k ≤ if_asked (writes_on v) h k (gave h k)
 unfolding put_on
 put_gives site h v (ask.Flushed m items) fit = mount_gives (mount_of h m) v (size_of_items items.items) fit
 put_gives site h v _ fit = omega arith

@@ -12,13 +12,12 @@ use Rattle.cta_model.specs.declared.answers.Answer.TheVariants as answer
 use Rattle.cta_model.specs.declared.asks.Item.{Item}
 use Rattle.cta_model.specs.declared.asks.Job.{Job}
 use Rattle.cta_model.specs.History.{History, has_number}
-use Rattle.cta_model.specs.Mounts.{asked_mount, is_open, open_mounts, claimed_items, claimed_after, claimer_of, without_jobs, has_job, item_jobs, same_job, same_direction}
-use Rattle.cta_model.specs.Jobs.{live_jobs}
-use Rattle.cta_model.specs.Queues.{queue_of, stands_in, direction_of}
-use Rattle.cta_model.specs.Stages.{claim_names}
+use Rattle.cta_model.specs.Mounts.{asked_mount, is_open, open_mounts, claimed_items, claimed_after, claimer_of, without_jobs, has_job, item_jobs, same_job, same_direction, claims, claim_names}
+use Rattle.cta_model.specs.Jobs.{is_live_job, jobs_born}
+use Rattle.cta_model.specs.Queues.{queue_of, is_queued, direction_of}
 use Rattle.cta_model.specs.Answers.{answer_of}
 use Rattle.cta_model.specs.Legal.{IsLegal}
-use Rattle.cta_laws.specs.Jobs.{claims, ClaimedOnce}
+use Rattle.cta_laws.specs.Jobs.{ClaimedOnce}
 use Rattle.cta_laws.proofs.Tests.{bool_cases, or_left, or_right, or_cases}
 use Rattle.cta_laws.proofs.Claims.{AllOf, all_mono, all_pass, claim_all, claim_is_open}
 use Rattle.cta_laws.proofs.EndLaw.{job_among}
@@ -27,7 +26,7 @@ use Rattle.cta_laws.proofs.MountLaw.{opened}
 
 -- ---- claims after one more entry
 
-has_append : (j : Job) (xs ys : List Item) → has_job j (item_jobs (xs ++ ys)) ≡ true → (has_job j (item_jobs xs) ≡ true) ⊎ (has_job j (item_jobs ys) ≡ true)
+pub has_append : (j : Job) (xs ys : List Item) → has_job j (item_jobs (xs ++ ys)) ≡ true → (has_job j (item_jobs xs) ≡ true) ⊎ (has_job j (item_jobs ys) ≡ true)
 has_append j [] ys e = inr e
 has_append j (x ∷ xs) ys e =
     elim (or_cases (same_job j x.job) (has_job j (item_jobs (xs ++ ys))) e) [
@@ -35,7 +34,7 @@ has_append j (x ∷ xs) ys e =
       | inr b ↦ elim (has_append j xs ys b) [ inl c ↦ inl (or_right (same_job j x.job) _ c) | inr c ↦ inr c ]
     ]
 
-has_without : (j : Job) (js : List Job) (xs : List Item) → has_job j (item_jobs (without_jobs js xs)) ≡ true → has_job j (item_jobs xs) ≡ true
+pub has_without : (j : Job) (js : List Job) (xs : List Item) → has_job j (item_jobs (without_jobs js xs)) ≡ true → has_job j (item_jobs xs) ≡ true
 has_without j js [] = λ e. e
 has_without j js (x ∷ xs) =
     elim (not (has_job x.job js)) as (λ b. has_job j (item_jobs (if b then x ∷ without_jobs js xs else without_jobs js xs)) ≡ true → (same_job j x.job || has_job j (item_jobs xs)) ≡ true) [
@@ -43,12 +42,12 @@ has_without j js (x ∷ xs) =
       | false ↦ λ e. or_right (same_job j x.job) _ (has_without j js xs e)
     ]
 
-if_without : (b : Bool) (j : Job) (js : List Job) (xs : List Item) → has_job j (item_jobs (if b then without_jobs js xs else xs)) ≡ true → has_job j (item_jobs xs) ≡ true
+pub if_without : (b : Bool) (j : Job) (js : List Job) (xs : List Item) → has_job j (item_jobs (if b then without_jobs js xs else xs)) ≡ true → has_job j (item_jobs xs) ≡ true
 if_without true j js xs e = has_without j js xs e
 if_without false j js xs e = e
 
 -- what a mount claims after an entry it claimed before, or the entry is its Claim and names it
-claim_cases : (k : Ask) (a : Answer) (m : ℕ) (before : List Item) (j : Job) → has_job j (item_jobs (claimed_after k a m before)) ≡ true → (has_job j (item_jobs before) ≡ true) ⊎ ((claim_names k a j ≡ true) × (asked_mount k ≡ m))
+pub claim_cases : (k : Ask) (a : Answer) (m : ℕ) (before : List Item) (j : Job) → has_job j (item_jobs (claimed_after k a m before)) ≡ true → (has_job j (item_jobs before) ≡ true) ⊎ ((claim_names k a j ≡ true) × (asked_mount k ≡ m))
 claim_cases (ask.Claim k) (answer.Batch items evicted) m before j =
     elim (bool_cases (k == m)) [
       | inl hit ↦ λ e. elim (has_append j before items.items (rw hit at e)) [ inl a ↦ inl a | inr b ↦ inr (b, eqb-true k m hit) ]
@@ -64,18 +63,18 @@ claim_cases _ a m before j = λ e. inl e
 abbrev pub IsUnclaimed : History → Job → Type 0
 IsUnclaimed h j = is_none (claimer_of h j) ≡ true
 
-stands_unclaimed : (site : Site) (h : History) (way : Direction) (key : ℕ) (j : Job) → stands_in site h way key j ≡ true → IsUnclaimed h j
-stands_unclaimed site h way key j e = (and_parts (is_none (claimer_of h j)) _ (and_parts (same_direction way (direction_of j)) _ e).1).0
+pub queued_unclaimed : (site : Site) (h : History) (way : Direction) (key : ℕ) (j : Job) → is_queued site h way key j ≡ true → IsUnclaimed h j
+queued_unclaimed site h way key j e = (and_parts (is_none (claimer_of h j)) _ (and_parts (same_direction way (direction_of j)) _ (and_parts (is_live_job site h j) _ e).1).1).0
 
-queue_unclaimed : (site : Site) (h : History) (way : Direction) (key : ℕ) → AllOf (IsUnclaimed h) (queue_of site h way key)
-queue_unclaimed site h way key = all_mono (λ j. stands_in site h way key j ≡ true) (IsUnclaimed h) (queue_of site h way key) (λ j e. stands_unclaimed site h way key j e) (all_pass (stands_in site h way key) (live_jobs site h))
+pub queue_unclaimed : (site : Site) (h : History) (way : Direction) (key : ℕ) → AllOf (IsUnclaimed h) (queue_of site h way key)
+queue_unclaimed site h way key = all_mono (λ j. is_queued site h way key j ≡ true) (IsUnclaimed h) (queue_of site h way key) (λ j e. queued_unclaimed site h way key j e) (all_pass (is_queued site h way key) (jobs_born site h))
 
-names_unclaimed : (site : Site) (h : History) (t : ℕ) (k : Ask) (a : Answer) (j : Job) → a ≡ answer_of site h t k → claim_names k a j ≡ true → IsUnclaimed h j × (is_open h (asked_mount k) ≡ true)
+pub names_unclaimed : (site : Site) (h : History) (t : ℕ) (k : Ask) (a : Answer) (j : Job) → a ≡ answer_of site h t k → claim_names k a j ≡ true → IsUnclaimed h j × (is_open h (asked_mount k) ≡ true)
 names_unclaimed site h t (ask.Claim m) (answer.Batch items evicted) j is e =
     (job_among (IsUnclaimed h) items.items (claim_all (IsUnclaimed h) site h t m items evicted is (queue_unclaimed site h)) j e, claim_is_open site h t m items evicted is)
 names_unclaimed site h t _ a j is e = absurd (cc)
 
-found_none : (test : ℕ → Bool) (ms : List ℕ) (m : ℕ) → is_none (find test ms) ≡ true → has_number m ms ≡ true → test m ≡ true → ⊥
+pub found_none : (test : ℕ → Bool) (ms : List ℕ) (m : ℕ) → is_none (find test ms) ≡ true → has_number m ms ≡ true → test m ≡ true → ⊥
 found_none test [] m none there e = absurd (cc)
 found_none test (k ∷ ms) m none there e =
     elim (bool_cases (test k)) [
@@ -93,10 +92,10 @@ unclaimed_by h j m none op e = found_none (λ k. has_job j (item_jobs (claimed_i
 -- ---- the law
 
 -- a mount that is open and claims the job before the entry, or whose Claim the entry is
-Claimer : History → Entry → ℕ → Job → Type 0
+pub Claimer : History → Entry → ℕ → Job → Type 0
 Claimer h e m j = ((is_open h m ≡ true) × (claims h m j ≡ true)) ⊎ ((claim_names e.ask e.answer j ≡ true) × (asked_mount e.ask ≡ m))
 
-claimer_before : (site : Site) (h : History) (e : Entry) (m : ℕ) (j : Job) → IsLegal site (e ∷ h) → is_open (e ∷ h) m ≡ true → claims (e ∷ h) m j ≡ true → Claimer h e m j
+pub claimer_before : (site : Site) (h : History) (e : Entry) (m : ℕ) (j : Job) → IsLegal site (e ∷ h) → is_open (e ∷ h) m ≡ true → claims (e ∷ h) m j ≡ true → Claimer h e m j
 unfolding Claimer
 claimer_before site h e m j legal op c =
     elim (claim_cases e.ask e.answer m (claimed_items h m) j c) [

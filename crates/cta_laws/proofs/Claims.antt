@@ -1,6 +1,7 @@
 -- Batches and claims: what holds of the jobs of a queue holds of the items that a Claim takes of it.
 use Rattle.std.proofs.Common.{◌≡◌, ℕ, zero, suc, ◌+◌, ◌-◌, ◌≤◌, ◌⊎◌, inl, inr, List, [], ◌∷◌, ◌++◌, Bool, true, false, not, refl, sym, ap, subst, arith, length}
-use Rattle.std.specs.Prelude.{Option, Some, None, if◌then◌else◌, ◌==◌, nat_lt, nat_le, filter}
+use Rattle.std.specs.Prelude.{Option, Some, None, if◌then◌else◌, ◌==◌, nat_lt, nat_le, filter, map}
+use Rattle.std.specs.List.{flat_map, range_with_len}
 use Rattle.cta_site.specs.declared.site.Site.{Site}
 use Rattle.cta_site.specs.Listed.{Listed}
 use Rattle.cta_site.specs.Lookups.{capacity_of, pool_of_tape}
@@ -14,13 +15,13 @@ use Rattle.cta_model.specs.declared.asks.Direction.TheVariants as direction
 use Rattle.cta_model.specs.declared.asks.Job.{Job}
 use Rattle.cta_model.specs.declared.asks.Item.{Item}
 use Rattle.cta_model.specs.declared.states.Mount.{Mount}
-use Rattle.cta_model.specs.History.{History, is_number, moment_of}
-use Rattle.cta_model.specs.Files.{size_of, sum_of, copies_of_file}
-use Rattle.cta_model.specs.Mounts.{mount_of, is_open, last_batch, batch_in, batch_or}
+use Rattle.cta_model.specs.History.{History, moment_of, entry_numbers}
+use Rattle.cta_model.specs.Files.{size_of, sum_of, copy_numbers}
+use Rattle.cta_model.specs.Mounts.{mount_of, is_open, last_batch, batch_in, batch_or, job_of}
 use Rattle.cta_model.specs.Tapes.{used_bytes, next_fseq}
 use Rattle.cta_model.specs.Space.{free_space, evictable_size}
-use Rattle.cta_model.specs.Jobs.{jobs_born, born_files, born_copies, live_birth, job_of, may_bear, live_jobs, is_live_job}
-use Rattle.cta_model.specs.Queues.{queue_of, stands_in}
+use Rattle.cta_model.specs.Jobs.{jobs_born, jobs_for, may_bear, is_live_job}
+use Rattle.cta_model.specs.Queues.{queue_of, is_queued}
 use Rattle.cta_model.specs.Batches.{taken_of, written_items, read_items, insert_by_fseq, fseq_on, batch_of, batch_by}
 use Rattle.cta_model.specs.Answers.{refuse, answer_of, claim_by, claim_answer, batch_answer, is_too_heavy}
 use Rattle.cta_model.specs.Legal.{IsLegal}
@@ -60,27 +61,25 @@ Below n j = j.file ≤ n
 abbrev pub ItemBelow : ℕ → Item → Type 0
 ItemBelow n i = i.job.file ≤ n
 
-copies_below : (site : Site) (h : History) (b f c n : ℕ) → f ≤ n → AllOf (Below n) (born_copies site h b f c)
-copies_below site h b f zero n low = elim (is_number b (live_birth site h f 0)) as (λ t. AllOf (Below n) (if t then job_of b f 0 ∷ [] else [])) [ true ↦ (low, tt) | false ↦ tt ]
-copies_below site h b f (suc c) n low =
-    all_append (Below n) (born_copies site h b f c) _ (copies_below site h b f c n low)
-    (elim (is_number b (live_birth site h f (suc c))) as (λ t. AllOf (Below n) (if t then job_of b f (suc c) ∷ [] else [])) [ true ↦ (low, tt) | false ↦ tt ])
+pub copies_below : (birth f n : ℕ) (copies : List ℕ) → f ≤ n → AllOf (Below n) (map (job_of birth f) copies)
+copies_below birth f n [] low = tt
+copies_below birth f n (c ∷ copies) low = (low, copies_below birth f n copies low)
 
-files_below : (site : Site) (h : History) (b f n : ℕ) → f ≤ n → AllOf (Below n) (born_files site h b f)
-files_below site h b zero n low = tt
-files_below site h b (suc f) n low =
-    all_append (Below n) (born_files site h b f) _ (files_below site h b f n (omega arith)) (copies_below site h b (suc f) (copies_of_file site h (suc f)) n low)
+pub files_below : (site : Site) (h : History) (birth a k n : ℕ) → a + k ≤ n + 1 → AllOf (Below n) (flat_map (jobs_for site h birth) (range_with_len a k))
+files_below site h birth a zero n low = tt
+files_below site h birth a (suc k) n low =
+    all_append (Below n) (jobs_for site h birth a) _ (copies_below birth a n (0 ∷ copy_numbers site h a) (omega arith)) (files_below site h birth (a + 1) k n (omega arith))
 
-born_below : (site : Site) (h : History) → AllOf (Below (length h)) (jobs_born site h)
+pub born_below : (site : Site) (h : History) → AllOf (Below (length h)) (jobs_born site h)
 born_below site [] = tt
 born_below site (e ∷ h) =
     all_append (Below (length (e ∷ h))) (jobs_born site h) _
     (all_mono (Below (length h)) (Below (length (e ∷ h))) (jobs_born site h) (λ j low. omega arith) (born_below site h))
-    (elim (may_bear e.ask) as (λ t. AllOf (Below (length (e ∷ h))) (if t then born_files site (e ∷ h) (length h + 1) (length h + 1) else []))
-    [ true ↦ files_below site (e ∷ h) (length h + 1) (length h + 1) (length (e ∷ h)) (omega arith) | false ↦ tt ])
+    (elim (may_bear e.ask) as (λ t. AllOf (Below (length (e ∷ h))) (if t then filter (is_live_job site (e ∷ h)) (flat_map (jobs_for site (e ∷ h) (length h + 1)) (entry_numbers (e ∷ h))) else []))
+    [ true ↦ all_filter (Below (length (e ∷ h))) (is_live_job site (e ∷ h)) (flat_map (jobs_for site (e ∷ h) (length h + 1)) (entry_numbers (e ∷ h))) (files_below site (e ∷ h) (length h + 1) 1 (length (e ∷ h)) (length (e ∷ h)) (omega arith)) | false ↦ tt ])
 
 pub queue_below : (site : Site) (h : History) (way : Direction) (key : ℕ) → AllOf (Below (length h)) (queue_of site h way key)
-queue_below site h way key = all_filter (Below (length h)) (stands_in site h way key) (live_jobs site h) (all_filter (Below (length h)) (is_live_job site h) (jobs_born site h) (born_below site h))
+queue_below site h way key = all_filter (Below (length h)) (is_queued site h way key) (jobs_born site h) (born_below site h)
 
 -- ---- batches
 
@@ -94,7 +93,7 @@ taken_all P h (suc n) room (j ∷ q) a =
 abbrev pub OfJob : (Job → Type 0) → Item → Type 0
 OfJob P i = P i.job
 
-written_all : (P : Job → Type 0) (h : History) (s : ℕ) (js : List Job) → AllOf P js → AllOf (OfJob P) (written_items h s js)
+pub written_all : (P : Job → Type 0) (h : History) (s : ℕ) (js : List Job) → AllOf P js → AllOf (OfJob P) (written_items h s js)
 written_all P h s [] a = tt
 written_all P h s (j ∷ js) a = (a.0, written_all P h (s + 1) js a.1)
 
@@ -102,7 +101,7 @@ pub insert_all : (P : Item → Type 0) (i : Item) (ks : List Item) → P i → A
 insert_all P i [] p a = (p, tt)
 insert_all P i (k ∷ ks) p a = elim (nat_lt i.fseq k.fseq) as (λ t. AllOf P (if t then i ∷ k ∷ ks else k ∷ insert_by_fseq i ks)) [ true ↦ (p, a) | false ↦ (a.0, insert_all P i ks p a.1) ]
 
-read_all : (P : Job → Type 0) (site : Site) (h : History) (v : ℕ) (js : List Job) → AllOf P js → AllOf (OfJob P) (read_items site h v js)
+pub read_all : (P : Job → Type 0) (site : Site) (h : History) (v : ℕ) (js : List Job) → AllOf P js → AllOf (OfJob P) (read_items site h v js)
 read_all P site h v [] a = tt
 read_all P site h v (j ∷ js) a = insert_all (OfJob P) (record { job = j; fseq = fseq_on site h v j.file; sum = sum_of h j.file }) (read_items site h v js) a.0 (read_all P site h v js a.1)
 
@@ -116,7 +115,7 @@ batch_all P site h t direction.Retrieve v all = read_all P site h v _ (taken_all
 abbrev pub IsBatch : Site → History → ℕ → Option Mount → List Item → Type 0
 IsBatch site h t o items = (x : Mount) × (o ≡ Some x) × (items ≡ batch_of site h t x) × (1 ≤ length items)
 
-batch_items : Answer → List Item
+pub batch_items : Answer → List Item
 batch_items (answer.Batch items evicted) = items.items
 batch_items _ = []
 
@@ -126,7 +125,7 @@ items_of site h t way [] items evicted e = absurd (cc)
 items_of site h t direction.Archive (i ∷ b) items evicted e = (ap batch_items e, omega arith)
 items_of site h t direction.Retrieve (i ∷ b) items evicted e = (ap batch_items e, omega arith)
 
-claimed_by : (site : Site) (h : History) (t : ℕ) (heavy closed : Bool) (o : Option Mount) (items : Listed Item) (evicted : Listed ℕ) → answer.Batch items evicted ≡ refuse refusal.HistoryFull heavy (refuse refusal.Unknown closed (claim_by site h t o)) → IsBatch site h t o items.items
+pub claimed_by : (site : Site) (h : History) (t : ℕ) (heavy closed : Bool) (o : Option Mount) (items : Listed Item) (evicted : Listed ℕ) → answer.Batch items evicted ≡ refuse refusal.HistoryFull heavy (refuse refusal.Unknown closed (claim_by site h t o)) → IsBatch site h t o items.items
 claimed_by site h t true closed o items evicted e = absurd (cc)
 claimed_by site h t false true o items evicted e = absurd (cc)
 claimed_by site h t false false None items evicted e = absurd (cc)
@@ -138,7 +137,7 @@ claimed_by site h t false false (Some x) items evicted e =
 pub claim_is_batch : (site : Site) (h : History) (t m : ℕ) (items : Listed Item) (evicted : Listed ℕ) → answer.Batch items evicted ≡ answer_of site h t (ask.Claim m) → IsBatch site h (moment_of h t) (mount_of h m) items.items
 claim_is_batch site h t m items evicted e = claimed_by site h (moment_of h t) (is_too_heavy site h (ask.Claim m) (claim_answer site h (moment_of h t) m)) (not (is_open h m)) (mount_of h m) items evicted e
 
-open_by : (heavy is : Bool) (a b : Answer) (items : Listed Item) (evicted : Listed ℕ) → a ≡ answer.Batch items evicted → a ≡ refuse refusal.HistoryFull heavy (refuse refusal.Unknown (not is) b) → is ≡ true
+pub open_by : (heavy is : Bool) (a b : Answer) (items : Listed Item) (evicted : Listed ℕ) → a ≡ answer.Batch items evicted → a ≡ refuse refusal.HistoryFull heavy (refuse refusal.Unknown (not is) b) → is ≡ true
 open_by true is a b items evicted is_batch e = absurd (cc)
 open_by false true a b items evicted is_batch e = refl
 open_by false false a b items evicted is_batch e = absurd (cc)
@@ -154,7 +153,7 @@ claim_all P site h t m items evicted e all =
     subst (λ (xs : List Item). AllOf (OfJob P) xs) (sym is.2) (batch_all P site h (moment_of h t) is.0.direction is.0.tape (all is.0.direction))
 
 -- the items of a mount's last Claim are of files of the history
-last_step : (site : Site) (h : History) (t m : ℕ) (k : Ask) (a : Answer) (o : Option (List Item)) (items : List Item) → a ≡ answer_of site h t k → ((xs : List Item) → o ≡ Some xs → AllOf (ItemBelow (length h)) xs) → batch_or (batch_in k a m) o ≡ Some items → AllOf (ItemBelow (length h)) items
+pub last_step : (site : Site) (h : History) (t m : ℕ) (k : Ask) (a : Answer) (o : Option (List Item)) (items : List Item) → a ≡ answer_of site h t k → ((xs : List Item) → o ≡ Some xs → AllOf (ItemBelow (length h)) xs) → batch_or (batch_in k a m) o ≡ Some items → AllOf (ItemBelow (length h)) items
 last_step site h t m (ask.Claim k) (answer.Batch xs evicted) o items legal older =
     elim (k == m) as (λ b. batch_or (if b then Some xs.items else None) o ≡ Some items → AllOf (ItemBelow (length h)) items)
     [ true ↦ λ e. (let same : xs.items ≡ items = cc in subst (λ (ys : List Item). AllOf (ItemBelow (length h)) ys) same (claim_all (Below (length h)) site h t k xs evicted legal (queue_below site h))) | false ↦ λ e. older items e ]

@@ -24,19 +24,19 @@ use Rattle.cta_laws.proofs.FseqLaw.{was_open}
 use Rattle.cta_laws.proofs.LengthLaw.{filtered_out}
 
 -- a mount of an older entry that is not open and claims nothing
-IsClosed : History → ℕ → Type 0
+pub IsClosed : History → ℕ → Type 0
 IsClosed h m = (m ≤ length h) × (is_open h m ≡ false) × (claimed_items h m ≡ [])
 
-not_open : (h : History) (e : Entry) (m : ℕ) → m ≤ length h → is_open h m ≡ false → is_open (e ∷ h) m ≡ false
+pub not_open : (h : History) (e : Entry) (m : ℕ) → m ≤ length h → is_open h m ≡ false → is_open (e ∷ h) m ≡ false
 not_open h e m low d =
     elim (bool_cases (is_open (e ∷ h) m))
     [ inl op ↦ (let bad : is_open h m ≡ true = was_open e.ask e.answer (length h + 1) m (open_mounts h) (not_next m (length h) low) op in absurd (cc)) | inr c ↦ c ]
 
-empty_if : (b : Bool) (js : List Job) → (if b then without_jobs js [] else []) ≡ []
+pub empty_if : (b : Bool) (js : List Job) → (if b then without_jobs js [] else []) ≡ []
 empty_if true js = refl
 empty_if false js = refl
 
-claims_none : (site : Site) (h : History) (t m : ℕ) (k : Ask) (a : Answer) (before : List Item) → a ≡ answer_of site h t k → is_open h m ≡ false → before ≡ [] → claimed_after k a m before ≡ []
+pub claims_none : (site : Site) (h : History) (t m : ℕ) (k : Ask) (a : Answer) (before : List Item) → a ≡ answer_of site h t k → is_open h m ≡ false → before ≡ [] → claimed_after k a m before ≡ []
 claims_none site h t m (ask.Claim k) (answer.Batch items evicted) before is d none =
     elim (bool_cases (k == m)) [
       | inl hit ↦
@@ -51,7 +51,7 @@ claims_none site h t m (ask.Recalled k job) a before is d none = rw none (empty_
 claims_none site h t m (ask.Failed k f charged returned) a before is d none = rw none (empty_if (k == m) (charged.items ++ returned.items))
 claims_none site h t m _ a before is d none = none
 
-stays_closed : (site : Site) (newer h : History) (m : ℕ) → IsLegal site (newer ++ h) → IsClosed h m → IsClosed (newer ++ h) m
+pub stays_closed : (site : Site) (newer h : History) (m : ℕ) → IsLegal site (newer ++ h) → IsClosed h m → IsClosed (newer ++ h) m
 unfolding IsClosed
 stays_closed site [] h m legal c = c
 stays_closed site (e ∷ newer) h m legal c =
@@ -59,15 +59,15 @@ stays_closed site (e ∷ newer) h m legal c =
     let low : m ≤ length (newer ++ h) = older.0 in
     (omega arith, not_open (newer ++ h) e m low older.1, claims_none site (newer ++ h) e.at m e.ask e.answer (claimed_items (newer ++ h) m) legal.1.answered older.1 older.2)
 
-end_by : (known : Bool) (a : Answer) → a ≡ refuse refusal.Unknown (not known) answer.Done → is_accepted a ≡ true → known ≡ true
+pub end_by : (known : Bool) (a : Answer) → a ≡ refuse refusal.Unknown (not known) answer.Done → is_accepted a ≡ true → known ≡ true
 end_by true a e y = refl
 end_by false a e y = absurd (cc)
 
-nothing_left : (xs : List Item) → is_empty xs ≡ true → xs ≡ []
+pub nothing_left : (xs : List Item) → is_empty xs ≡ true → xs ≡ []
 nothing_left [] e = refl
 nothing_left (x ∷ xs) e = absurd (cc)
 
-closed_by : (site : Site) (h : History) (e : Entry) (m : ℕ) (fault : Option Fault) (k : Ask) → e.ask ≡ k → k ≡ ask.End m fault → IsNext site h e → IsClosed (e ∷ h) m
+pub closed_by : (site : Site) (h : History) (e : Entry) (m : ℕ) (fault : Option Fault) (k : Ask) → e.ask ≡ k → k ≡ ask.End m fault → IsNext site h e → IsClosed (e ∷ h) m
 unfolding IsClosed
 closed_by site h e m fault k ek is next =
     let same : e.ask ≡ ask.End m fault = ek ∙ is in

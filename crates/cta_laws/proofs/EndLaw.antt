@@ -1,7 +1,7 @@
 -- A job that has ended is live no more: no Claim names it, and a Recalled of it is Stale.
 use Rattle.std.proofs.Common.{◌≡◌, ℕ, zero, suc, ◌+◌, ◌≤◌, ◌⊎◌, inl, inr, List, [], ◌∷◌, ◌++◌, Bool, true, false, not, refl, sym, ◌∙◌, ap, subst, arith, length}
 use Rattle.std.specs.Prelude.{Option, Some, None, IsSome, is_some, if◌then◌else◌}
-use Rattle.std.proofs.lemmas.Bool.{eqb-true}
+use Rattle.std.proofs.lemmas.Bool.{eqb-true, and_parts}
 use Rattle.cta_site.specs.declared.site.Site.{Site}
 use Rattle.cta_model.specs.declared.entries.Entry.{Entry}
 use Rattle.cta_model.specs.declared.asks.Ask.{Ask}
@@ -14,20 +14,19 @@ use Rattle.cta_model.specs.declared.asks.Direction.{Direction}
 use Rattle.cta_model.specs.declared.asks.Job.{Job}
 use Rattle.cta_model.specs.declared.asks.Item.{Item}
 use Rattle.cta_model.specs.History.{History, is_number}
-use Rattle.cta_model.specs.Mounts.{same_job, has_job, item_jobs}
-use Rattle.cta_model.specs.Jobs.{archive_birth, archive_after, job_of, bears_archive, ends_archive, live_birth, is_live_job, live_jobs, jobs_born, job_end, end_after}
-use Rattle.cta_model.specs.Queues.{queue_of, stands_in}
-use Rattle.cta_model.specs.Stages.{claim_names}
+use Rattle.cta_model.specs.Mounts.{same_job, has_job, item_jobs, claim_names, job_of}
+use Rattle.cta_model.specs.Jobs.{archive_birth, archive_after, bears_archive, ends_archive, live_birth, is_live_job, jobs_born, job_end, end_after}
+use Rattle.cta_model.specs.Queues.{queue_of, is_queued}
 use Rattle.cta_model.specs.Answers.{refuse, answer_of, is_accepted, is_known}
 use Rattle.cta_laws.specs.Jobs.{EndsForGood, NoClaimAfterEnd}
 use Rattle.cta_laws.specs.Recalls.{StaleAfterEnd}
 use Rattle.cta_laws.proofs.Tests.{bool_cases, not_next}
 use Rattle.cta_laws.proofs.OnceLaw.{stays_ended, born_before, same_job_eq}
-use Rattle.cta_laws.proofs.Claims.{AllOf, OfJob, all_filter, all_pass, claim_all}
+use Rattle.cta_laws.proofs.Claims.{AllOf, OfJob, all_mono, all_pass, claim_all}
 
 -- ---- archive jobs
 
-archive_ended : (site : Site) (h : History) (e : Entry) (f c b : ℕ) → b ≤ length h → (o : Option ℕ) → is_number b o ≡ false → is_number b (archive_after site h e f c o) ≡ false
+pub archive_ended : (site : Site) (h : History) (e : Entry) (f c b : ℕ) → b ≤ length h → (o : Option ℕ) → is_number b o ≡ false → is_number b (archive_after site h e f c o) ≡ false
 archive_ended site h e f c b low None d =
     elim (bears_archive site h e.ask e.answer f c) as (λ t. is_number b (if t then Some (length h + 1) else None) ≡ false)
     [ true ↦ not_next b (length h) low | false ↦ refl ]
@@ -35,7 +34,7 @@ archive_ended site h e f c b low (Some birth) d =
     elim (ends_archive site h e.ask e.answer (job_of birth f c)) as (λ t. is_number b (if t then None else Some birth) ≡ false)
     [ true ↦ refl | false ↦ d ]
 
-archive_before : (site : Site) (h : History) (f c b : ℕ) → is_number b (archive_birth site h f c) ≡ true → b ≤ length h
+pub archive_before : (site : Site) (h : History) (f c b : ℕ) → is_number b (archive_birth site h f c) ≡ true → b ≤ length h
 archive_before site [] f c b y = absurd (cc)
 archive_before site (e ∷ h) f c b y = (let low : b ≤ length h + 1 = after (archive_birth site h f c) (λ z. archive_before site h f c b z) y in omega arith)
   where
@@ -49,11 +48,11 @@ archive_before site (e ∷ h) f c b y = (let low : b ≤ length h + 1 = after (a
 
 -- ---- all jobs
 
-birth_ended : (site : Site) (h : History) (e : Entry) (f c b : ℕ) → b ≤ length h → is_number b (live_birth site h f c) ≡ false → is_number b (live_birth site (e ∷ h) f c) ≡ false
+pub birth_ended : (site : Site) (h : History) (e : Entry) (f c b : ℕ) → b ≤ length h → is_number b (live_birth site h f c) ≡ false → is_number b (live_birth site (e ∷ h) f c) ≡ false
 birth_ended site h e f zero b low d = stays_ended site h e f b low d
 birth_ended site h e f (suc c) b low d = archive_ended site h e f (suc c) b low (archive_birth site h f (suc c)) d
 
-birth_before : (site : Site) (h : History) (f c b : ℕ) → is_number b (live_birth site h f c) ≡ true → b ≤ length h
+pub birth_before : (site : Site) (h : History) (f c b : ℕ) → is_number b (live_birth site h f c) ≡ true → b ≤ length h
 birth_before site h f zero b y = born_before site h f b y
 birth_before site h f (suc c) b y = archive_before site h f (suc c) b y
 
@@ -72,7 +71,7 @@ job_stays_ended_long site (e ∷ newer) h j low d =
     let less : j.birth ≤ length (newer ++ h) = older.0 in
     (omega arith, job_stays_ended site (newer ++ h) e j older.0 older.1)
 
-ended_now : (was is : Bool) (n : ℕ) (o : Option ℕ) → is_some (end_after was is n o) ≡ true → (is_some o ≡ true) ⊎ ((was ≡ true) × (is ≡ false))
+pub ended_now : (was is : Bool) (n : ℕ) (o : Option ℕ) → is_some (end_after was is n o) ≡ true → (is_some o ≡ true) ⊎ ((was ≡ true) × (is ≡ false))
 ended_now was is n (Some m) e = inl refl
 ended_now true false n None e = inr (refl, refl)
 ended_now true true n None e = absurd (cc)
@@ -97,12 +96,12 @@ ends_for_good site newer h legal j e =
 
 -- ---- a Claim names live jobs
 
-IsLive : Site → History → Job → Type 0
+pub IsLive : Site → History → Job → Type 0
 IsLive site h j = is_live_job site h j ≡ true
 
-queue_live : (site : Site) (h : History) (way : Direction) (key : ℕ) → AllOf (IsLive site h) (queue_of site h way key)
+pub queue_live : (site : Site) (h : History) (way : Direction) (key : ℕ) → AllOf (IsLive site h) (queue_of site h way key)
 unfolding IsLive
-queue_live site h way key = all_filter (IsLive site h) (stands_in site h way key) (live_jobs site h) (all_pass (is_live_job site h) (jobs_born site h))
+queue_live site h way key = all_mono (λ j. is_queued site h way key j ≡ true) (IsLive site h) (queue_of site h way key) (λ j on. (and_parts (is_live_job site h j) _ on).0) (all_pass (is_queued site h way key) (jobs_born site h))
 
 -- what holds of each item's job holds of a job among them
 pub job_among : (P : Job → Type 0) (items : List Item) → AllOf (OfJob P) items → (j : Job) → has_job j (item_jobs items) ≡ true → P j
@@ -111,12 +110,12 @@ job_among P (i ∷ items) all j e =
     elim (bool_cases (same_job j i.job))
     [ inl hit ↦ subst P (sym (same_job_eq j i.job hit)) all.0 | inr miss ↦ job_among P items all.1 j (rw miss at e) ]
 
-claim_live : (site : Site) (h : History) (t : ℕ) (k : Ask) (a : Answer) (j : Job) → a ≡ answer_of site h t k → claim_names k a j ≡ true → is_live_job site h j ≡ true
+pub claim_live : (site : Site) (h : History) (t : ℕ) (k : Ask) (a : Answer) (j : Job) → a ≡ answer_of site h t k → claim_names k a j ≡ true → is_live_job site h j ≡ true
 unfolding IsLive
 claim_live site h t (ask.Claim m) (answer.Batch items evicted) j is e = job_among (IsLive site h) items.items (claim_all (IsLive site h) site h t m items evicted is (queue_live site h)) j e
 claim_live site h t _ a j is e = absurd (cc)
 
-not_true : (a b : Bool) → (a ≡ true → b ≡ true) → b ≡ false → a ≡ false
+pub not_true : (a b : Bool) → (a ≡ true → b ≡ true) → b ≡ false → a ≡ false
 not_true true b h e = (let bad : b ≡ true = h refl in absurd (cc))
 not_true false b h e = refl
 
@@ -124,7 +123,7 @@ pub no_claim_after_end : NoClaimAfterEnd
 no_claim_after_end site newer h e legal j end =
     not_true (claim_names e.ask e.answer j) (is_live_job site (newer ++ h) j) (λ y. claim_live site (newer ++ h) e.at e.ask e.answer j legal.1.answered y) (ends_for_good site newer h legal.0 j end)
 
-stale_by : (live t : Bool) (a : Answer) → live ≡ false → a ≡ refuse refusal.Unknown t (answer.Arrived (if live then fate.Done else fate.Stale)) → is_accepted a ≡ true → a ≡ answer.Arrived fate.Stale
+pub stale_by : (live t : Bool) (a : Answer) → live ≡ false → a ≡ refuse refusal.Unknown t (answer.Arrived (if live then fate.Done else fate.Stale)) → is_accepted a ≡ true → a ≡ answer.Arrived fate.Stale
 stale_by true t a d e y = absurd (cc)
 stale_by false true a d e y = absurd (cc)
 stale_by false false a d e y = e

@@ -1,8 +1,7 @@
 -- A file is said to be on tape only where each copy of its class was flushed.
-use Rattle.std.proofs.Common.{◌≡◌, ℕ, zero, suc, ◌≤◌, ◌⊎◌, inl, inr, List, [], ◌∷◌, Bool, true, false, ◌||◌, refl, sym, ap, subst, arith}
+use Rattle.std.proofs.Common.{◌≡◌, ℕ, ◌⊎◌, inl, inr, List, [], ◌∷◌, Bool, true, false, ◌||◌, refl, sym, ap, subst, arith}
 use Rattle.std.specs.Prelude.{Option, Some, None, is_some, if◌then◌else◌}
 use Rattle.std.specs.List.{list_any, AllByRecursion}
-use Rattle.std.proofs.lemmas.Bool.{cases_lt, and_parts}
 use Rattle.cta_site.specs.declared.site.Site.{Site}
 use Rattle.cta_model.specs.declared.asks.Item.{Item}
 use Rattle.cta_model.specs.declared.asks.Fate.{Fate}
@@ -16,25 +15,26 @@ use Rattle.cta_model.specs.History.{History}
 use Rattle.cta_model.specs.Files.{live_file, copies_of_file}
 use Rattle.cta_model.specs.Mounts.{tape_of_mount, asked_mount}
 use Rattle.cta_model.specs.Tapes.{may_be_read, is_disabled}
-use Rattle.cta_model.specs.Places.{fseq_after, is_copy_of, place_after, flushed_in, last_flushed, was_flushed, copies_flushed, is_taped}
+use Rattle.cta_model.specs.Places.{fseq_after, is_copy_of, place_after, flushed_in, last_flushed, was_flushed, is_taped}
 use Rattle.cta_model.specs.Buffer.{is_resident}
 use Rattle.cta_model.specs.Localities.{locality_by, locality_of, has_place_where}
 use Rattle.cta_model.specs.Reports.{place_info, place_infos}
-use Rattle.cta_laws.specs.Localities.{WasFlushed, SaysTape, TapeIsFlushed, IsTrueOfTape, ToldTapeIsFlushed}
+use Rattle.cta_laws.specs.Localities.{WasFlushed, SaysTape, TapeIsFlushed, IsTrueOfTape, ToldTapeIsFlushed, EachCopyWasFlushed}
+use Rattle.cta_laws.proofs.Ranges.{in_range_all}
 
 -- an item that put the copy on tape is among the items
-fseq_done : (xs : List (Item × Fate)) (f c : ℕ) (before : Option ℕ) → is_some (fseq_after xs f c before) ≡ true → (list_any (is_copy_of f c) xs ≡ true) ⊎ (is_some before ≡ true)
+pub fseq_done : (xs : List (Item × Fate)) (f c : ℕ) (before : Option ℕ) → is_some (fseq_after xs f c before) ≡ true → (list_any (is_copy_of f c) xs ≡ true) ⊎ (is_some before ≡ true)
 fseq_done [] f c before = λ h. inr h
 fseq_done (x ∷ xs) f c before =
     elim (is_copy_of f c x)
     as (λ b. is_some (fseq_after xs f c (if b then Some x.0.fseq else before)) ≡ true → ((b || list_any (is_copy_of f c) xs) ≡ true) ⊎ (is_some before ≡ true))
     [ true ↦ λ h. inl refl | false ↦ λ h. fseq_done xs f c before h ]
 
-place_cases : (c v : ℕ) (o : Option ℕ) (before : Option Place) → is_some (place_after c v o before) ≡ true → (is_some o ≡ true) ⊎ (is_some before ≡ true)
+pub place_cases : (c v : ℕ) (o : Option ℕ) (before : Option Place) → is_some (place_after c v o before) ≡ true → (is_some o ≡ true) ⊎ (is_some before ≡ true)
 place_cases c v None before h = inr h
 place_cases c v (Some s) before h = inl refl
 
-flushed_done : (xs : List (Item × Fate)) (f c : ℕ) → is_some (fseq_after xs f c None) ≡ true → list_any (is_copy_of f c) xs ≡ true
+pub flushed_done : (xs : List (Item × Fate)) (f c : ℕ) → is_some (fseq_after xs f c None) ≡ true → list_any (is_copy_of f c) xs ≡ true
 flushed_done xs f c h = elim (fseq_done xs f c None h) [ inl b ↦ b | inr z ↦ absurd (cc) ]
 
 pub copy_flushed : (h : History) (f c : ℕ) → was_flushed h f c ≡ true → WasFlushed h f c
@@ -43,43 +43,37 @@ copy_flushed (e ∷ h) f c s =
     elim (place_cases c (tape_of_mount h (asked_mount e.ask)) (fseq_after (flushed_in e.ask e.answer) f c None) (last_flushed h f c) s)
     [ inl a ↦ inl (flushed_done (flushed_in e.ask e.answer) f c a) | inr b ↦ inr (copy_flushed h f c b) ]
 
-pub each_flushed : (n : ℕ) (h : History) (f : ℕ) → copies_flushed h f n ≡ true → (c : ℕ) → 1 ≤ c → c ≤ n → WasFlushed h f c
-each_flushed zero h f all c low high = absurd (omega arith)
-each_flushed (suc n) h f all c low high =
-    let parts : (copies_flushed h f n ≡ true) × (was_flushed h f (suc n) ≡ true) = and_parts _ _ all in
-    elim (cases_lt c (suc n)) [
-      | inl less ↦ each_flushed n h f parts.0 c low (omega arith)
-      | inr more ↦ (let e : suc n ≡ c = omega arith in subst (λ k. WasFlushed h f k) e (copy_flushed h f (suc n) parts.1))
-    ]
+pub each_flushed : (site : Site) (h : History) (f : ℕ) → is_taped site h f ≡ true → EachCopyWasFlushed site h f
+each_flushed site h f all c low high = copy_flushed h f c (in_range_all (was_flushed h f) 1 (copies_of_file site h f) all c low (omega arith))
 
-taped_by : (taped readable resident disabled : Bool) → SaysTape (locality_by taped readable resident disabled) → taped ≡ true
+pub taped_by : (taped readable resident disabled : Bool) → SaysTape (locality_by taped readable resident disabled) → taped ≡ true
 taped_by true readable resident disabled h = refl
 taped_by false readable true disabled h = elim h [ inl a ↦ absurd (cc) | inr a ↦ absurd (cc) ]
 taped_by false readable false true h = elim h [ inl a ↦ absurd (cc) | inr a ↦ absurd (cc) ]
 taped_by false readable false false h = elim h [ inl a ↦ absurd (cc) | inr a ↦ absurd (cc) ]
 
 pub tape_is_flushed : TapeIsFlushed
-tape_is_flushed site h f said = each_flushed (copies_of_file site h f) h f (taped_by (is_taped site h f) (has_place_where may_be_read site h f) (is_resident h f) (has_place_where is_disabled site h f) said)
+tape_is_flushed site h f said = each_flushed site h f (taped_by (is_taped site h f) (has_place_where may_be_read site h f) (is_resident h f) (has_place_where is_disabled site h f) said)
 
 -- ---- what is told
 
-locality_in : PlaceInfo → Option Locality
+pub locality_in : PlaceInfo → Option Locality
 locality_in i = i.locality
 
-locality_or : Option Locality → Locality
+pub locality_or : Option Locality → Locality
 locality_or None = locality.Lost
 locality_or (Some l) = l
 
-info_true : (site : Site) (h : History) (path : List ℕ) (o : Option ℕ) → live_file h path ≡ o → IsTrueOfTape site h (place_info site h path o)
+pub info_true : (site : Site) (h : History) (path : List ℕ) (o : Option ℕ) → live_file h path ≡ o → IsTrueOfTape site h (place_info site h path o)
 unfolding locality_or
 info_true site h path None is = λ l e says. absurd (cc)
 info_true site h path (Some f) is = λ l e says. (let same : locality_of site h f ≡ l = ap locality_or e in (f, is, tape_is_flushed site h f (subst (λ x. SaysTape x) (sym same) says)))
 
-infos_true : (site : Site) (h : History) (paths : List (List ℕ)) → AllByRecursion (IsTrueOfTape site h) (place_infos site h paths)
+pub infos_true : (site : Site) (h : History) (paths : List (List ℕ)) → AllByRecursion (IsTrueOfTape site h) (place_infos site h paths)
 infos_true site h [] = tt
 infos_true site h (p ∷ paths) = (info_true site h p (live_file h p) refl, infos_true site h paths)
 
-infos_in : Answer → List PlaceInfo
+pub infos_in : Answer → List PlaceInfo
 infos_in (answer.Places infos) = infos.items
 infos_in _ = []
 

@@ -19,7 +19,8 @@ use Rattle.cta_model.specs.Mounts.{mount_of, tape_by, tape_of_mount, asked_mount
 use Rattle.cta_model.specs.Tapes.{tape_items, items_after, next_fseq, is_broken, tape_state, used_bytes}
 use Rattle.cta_model.specs.Queues.{queue_of}
 use Rattle.cta_model.specs.Batches.{written_items, batch_of, batch_by, taken_of}
-use Rattle.cta_model.specs.Answers.{answer_of, is_accepted, is_too_heavy, is_known, is_last_batch, same_items, same_item, reclaim_answer, live_copies_on}
+use Rattle.cta_model.specs.Answers.{answer_of, is_accepted, is_too_heavy, is_known, is_last_batch, same_items, same_item, reclaim_answer}
+use Rattle.cta_model.specs.Places.{live_items_on}
 use Rattle.cta_model.specs.Legal.{IsLegal, IsFit, IsMountOf}
 use Rattle.cta_laws.specs.Places.{is_item_of, PlacesBelow}
 use Rattle.cta_laws.proofs.Tests.{bool_cases, or_left, or_right, not_next}
@@ -29,7 +30,7 @@ use Rattle.cta_laws.proofs.PlaceLaw.{places_on_tape, flushed_known, reclaim_none
 
 -- ---- the mount of a claim is open, and older
 
-claim_older : (site : Site) (h : History) (t m : ℕ) (k : Ask) (a : Answer) (o : Option (List Item)) (items : List Item) → a ≡ answer_of site h t k → (o ≡ Some items → m ≤ length h) → batch_or (batch_in k a m) o ≡ Some items → m ≤ length h
+pub claim_older : (site : Site) (h : History) (t m : ℕ) (k : Ask) (a : Answer) (o : Option (List Item)) (items : List Item) → a ≡ answer_of site h t k → (o ≡ Some items → m ≤ length h) → batch_or (batch_in k a m) o ≡ Some items → m ≤ length h
 claim_older site h t m (ask.Claim k) (answer.Batch xs evicted) o items is older =
     elim (bool_cases (k == m)) [
       | inl hit ↦ λ e. (let same : k ≡ m = eqb-true k m hit in subst (λ (x : ℕ). x ≤ length h) same (open_older h k (claim_is_open site h t k xs evicted is)))
@@ -37,7 +38,7 @@ claim_older site h t m (ask.Claim k) (answer.Batch xs evicted) o items is older 
     ]
 claim_older site h t m _ a o items is older = λ e. older e
 
-last_older : (site : Site) (h : History) → IsLegal site h → (m : ℕ) (items : List Item) → last_batch h m ≡ Some items → m ≤ length h
+pub last_older : (site : Site) (h : History) → IsLegal site h → (m : ℕ) (items : List Item) → last_batch h m ≡ Some items → m ≤ length h
 last_older site [] legal m items e = absurd (cc)
 last_older site (e ∷ h) legal m items is =
     let low : m ≤ length h = claim_older site h e.at m e.ask e.answer (last_batch h m) items legal.1.answered (λ q. last_older site h legal.0 m items q) is in
@@ -58,7 +59,7 @@ was_open (ask.Next d) (answer.Mounted u way v) n m ms d' e = rw d' at e
 was_open (ask.End u f) a n m ms d' e = any_filter (λ k. not (k == u)) m ms e
 was_open _ a n m ms d' e = e
 
-mounted_any : (h : History) (m : ℕ) (x : Mount) (ms : List ℕ) → mount_of h m ≡ Some x → has_number m ms ≡ true → list_any (λ k. is_mount (λ (y : Mount). y.tape == x.tape) (mount_of h k)) ms ≡ true
+pub mounted_any : (h : History) (m : ℕ) (x : Mount) (ms : List ℕ) → mount_of h m ≡ Some x → has_number m ms ≡ true → list_any (λ k. is_mount (λ (y : Mount). y.tape == x.tape) (mount_of h k)) ms ≡ true
 mounted_any h m x [] is e = absurd (cc)
 mounted_any h m x (k ∷ ms) is e =
     elim (bool_cases (m == k)) [
@@ -71,38 +72,38 @@ mounted_any h m x (k ∷ ms) is e =
 
 -- ---- a batch for writing is numbered from the next fSeq
 
-written_length : (h : History) (s : ℕ) (js : List Job) → length (written_items h s js) ≡ length js
+pub written_length : (h : History) (s : ℕ) (js : List Job) → length (written_items h s js) ≡ length js
 written_length h s [] = refl
 written_length h s (j ∷ js) = ap suc (written_length h (s + 1) js)
 
-written_up_to : (h : History) (s n : ℕ) (js : List Job) → s + length js ≤ n + 1 → AllOf (λ (i : Item). i.fseq ≤ n) (written_items h s js)
+pub written_up_to : (h : History) (s n : ℕ) (js : List Job) → s + length js ≤ n + 1 → AllOf (λ (i : Item). i.fseq ≤ n) (written_items h s js)
 written_up_to h s n [] low = tt
 written_up_to h s n (j ∷ js) low = (omega arith, written_up_to h (s + 1) n js (omega arith))
 
 -- the items fit behind those on the tape
-FitsBehind : ℕ → List Item → Type 0
+pub FitsBehind : ℕ → List Item → Type 0
 FitsBehind n items = AllOf (λ (i : Item). i.fseq ≤ n + length items) items
 
-fits_more : (n k : ℕ) (items : List Item) → n ≤ k → FitsBehind n items → FitsBehind k items
+pub fits_more : (n k : ℕ) (items : List Item) → n ≤ k → FitsBehind n items → FitsBehind k items
 unfolding FitsBehind
 fits_more n k items low fits = all_mono (λ (i : Item). i.fseq ≤ n + length items) (λ (i : Item). i.fseq ≤ k + length items) items (λ i q. omega arith) fits
 
-written_fits : (site : Site) (h : History) (t : ℕ) (way : Direction) (v : ℕ) → way ≡ direction.Archive → AllOf (λ (i : Item). i.fseq ≤ length (tape_items h v) + length (batch_by site h t way v)) (batch_by site h t way v)
+pub written_fits : (site : Site) (h : History) (t : ℕ) (way : Direction) (v : ℕ) → way ≡ direction.Archive → AllOf (λ (i : Item). i.fseq ≤ length (tape_items h v) + length (batch_by site h t way v)) (batch_by site h t way v)
 written_fits site h t direction.Archive v e =
     (let q : List Job = taken_of h site.limits.batch_files (capacity_of site v - used_bytes h v) (queue_of site h direction.Archive (pool_of_tape site v)) in
     written_up_to h (next_fseq h v) (length (tape_items h v) + length (written_items h (next_fseq h v) q)) q (rw (written_length h (next_fseq h v) q) (omega arith)))
 written_fits site h t direction.Retrieve v e = absurd (cc)
 
-batch_fits : (site : Site) (h : History) (t : ℕ) (x : Mount) → x.direction ≡ direction.Archive → FitsBehind (length (tape_items h x.tape)) (batch_of site h t x)
+pub batch_fits : (site : Site) (h : History) (t : ℕ) (x : Mount) → x.direction ≡ direction.Archive → FitsBehind (length (tape_items h x.tape)) (batch_of site h t x)
 unfolding FitsBehind
 batch_fits site h t x way = written_fits site h t x.direction x.tape way
 
 -- ---- the last Claim of an open writing mount fits behind its tape's items
 
-way_of : (o : Option Mount) (x : Mount) → o ≡ Some x → IsMountOf direction.Archive o → x.direction ≡ direction.Archive
+pub way_of : (o : Option Mount) (x : Mount) → o ≡ Some x → IsMountOf direction.Archive o → x.direction ≡ direction.Archive
 way_of o x is way = subst (λ (p : Option Mount). IsMountOf direction.Archive p) is way
 
-claim_fits : (site : Site) (h : History) (t m : ℕ) (k : Ask) (a : Answer) (o : Option (List Item)) (items : List Item) → a ≡ answer_of site h t k → IsMountOf direction.Archive (mount_of h m) → ((xs : List Item) → o ≡ Some xs → FitsBehind (length (tape_items h (tape_of_mount h m))) xs) → batch_or (batch_in k a m) o ≡ Some items → FitsBehind (length (tape_items h (tape_of_mount h m))) items
+pub claim_fits : (site : Site) (h : History) (t m : ℕ) (k : Ask) (a : Answer) (o : Option (List Item)) (items : List Item) → a ≡ answer_of site h t k → IsMountOf direction.Archive (mount_of h m) → ((xs : List Item) → o ≡ Some xs → FitsBehind (length (tape_items h (tape_of_mount h m))) xs) → batch_or (batch_in k a m) o ≡ Some items → FitsBehind (length (tape_items h (tape_of_mount h m))) items
 claim_fits site h t m (ask.Claim k) (answer.Batch xs evicted) o items is way older =
     elim (bool_cases (k == m)) [
       | inl hit ↦ λ e.
@@ -118,12 +119,12 @@ claim_fits site h t m (ask.Claim k) (answer.Batch xs evicted) o items is way old
     ]
 claim_fits site h t m _ a o items is way older = λ e. older items e
 
-grows : (site : Site) (h : History) (t : ℕ) (k : Ask) (a : Answer) (v w : ℕ) → a ≡ answer_of site h t k → is_accepted a ≡ true → is_mounted h v ≡ true → length (tape_items h v) ≤ length (items_after k v w (tape_items h v))
+pub grows : (site : Site) (h : History) (t : ℕ) (k : Ask) (a : Answer) (v w : ℕ) → a ≡ answer_of site h t k → is_accepted a ≡ true → is_mounted h v ≡ true → length (tape_items h v) ≤ length (items_after k v w (tape_items h v))
 grows site h t (ask.Flushed m items) a v w is y up = elim (w == v) as (λ b. length (tape_items h v) ≤ length (if b then tape_items h v ++ items.items else tape_items h v)) [ true ↦ omega (arith, length-append (tape_items h v) items.items) | false ↦ omega arith ]
 grows site h t (ask.Reclaim who u) a v w is y up =
     elim (bool_cases (u == v)) [
       | inl hit ↦
-          (let none : (is_empty (live_copies_on site h u) ≡ true) × (is_mounted h u ≡ false) = reclaim_none (is_too_heavy site h (ask.Reclaim who u) (reclaim_answer site h u)) (nat_le (length site.tapes.items) u) (is_mounted h u) (is_broken (tape_state site h u)) (is_empty (live_copies_on site h u)) a is y in
+          (let none : (is_empty (live_items_on h u) ≡ true) × (is_mounted h u ≡ false) = reclaim_none (is_too_heavy site h (ask.Reclaim who u) (reclaim_answer site h u)) (nat_le (length site.tapes.items) u) (is_mounted h u) (is_broken (tape_state site h u)) (is_empty (live_items_on h u)) a is y in
           let same : u ≡ v = eqb-true u v hit in
           let here : is_mounted h v ≡ false = subst (λ (x : ℕ). is_mounted h x ≡ false) same none.1 in
           absurd (cc))
@@ -132,14 +133,14 @@ grows site h t (ask.Reclaim who u) a v w is y up =
 grows site h t _ a v w is y up = omega arith
 
 -- a mount that goes some way is there
-mount_there : (way : Direction) (o : Option Mount) → IsMountOf way o → (x : Mount) × (o ≡ Some x)
+pub mount_there : (way : Direction) (o : Option Mount) → IsMountOf way o → (x : Mount) × (o ≡ Some x)
 mount_there way None is = absurd is
 mount_there way (Some x) is = (x, refl)
 
 pub open_mounted : (h : History) (m : ℕ) (x : Mount) → mount_of h m ≡ Some x → is_open h m ≡ true → is_mounted h (tape_of_mount h m) ≡ true
 open_mounted h m x is op = subst (λ (v : ℕ). is_mounted h v ≡ true) (sym (ap tape_by is)) (mounted_any h m x (open_mounts h) is op)
 
-claims_fit : (site : Site) (h : History) → IsLegal site h → (m : ℕ) (items : List Item) → is_open h m ≡ true → IsMountOf direction.Archive (mount_of h m) → last_batch h m ≡ Some items → FitsBehind (length (tape_items h (tape_of_mount h m))) items
+pub claims_fit : (site : Site) (h : History) → IsLegal site h → (m : ℕ) (items : List Item) → is_open h m ≡ true → IsMountOf direction.Archive (mount_of h m) → last_batch h m ≡ Some items → FitsBehind (length (tape_items h (tape_of_mount h m))) items
 claims_fit site [] legal m items op way is = absurd (cc)
 claims_fit site (e ∷ h) legal m items op way is =
     let low : m ≤ length h = claim_older site h e.at m e.ask e.answer (last_batch h m) items legal.1.answered (λ q. last_older site h legal.0 m items q) is in
@@ -153,7 +154,7 @@ claims_fit site (e ∷ h) legal m items op way is =
 
 -- ---- the items on a tape are numbered up to their number
 
-same_fits : (n : ℕ) (xs ys : List Item) → same_items xs ys ≡ true → AllOf (λ (i : Item). i.fseq ≤ n) ys → AllOf (λ (i : Item). i.fseq ≤ n) xs
+pub same_fits : (n : ℕ) (xs ys : List Item) → same_items xs ys ≡ true → AllOf (λ (i : Item). i.fseq ≤ n) ys → AllOf (λ (i : Item). i.fseq ≤ n) xs
 same_fits n [] [] e a = tt
 same_fits n [] (y ∷ ys) e a = absurd (cc)
 same_fits n (x ∷ xs) [] e a = absurd (cc)
@@ -168,24 +169,24 @@ same_length [] (y ∷ ys) e = absurd (cc)
 same_length (x ∷ xs) [] e = absurd (cc)
 same_length (x ∷ xs) (y ∷ ys) e = ap suc (same_length xs ys (and_parts (same_item x y) _ e).1)
 
-last_fits : (n : ℕ) (items : List Item) (o : Option (List Item)) → is_last_batch o items ≡ true → ((xs : List Item) → o ≡ Some xs → FitsBehind n xs) → FitsBehind n items
+pub last_fits : (n : ℕ) (items : List Item) (o : Option (List Item)) → is_last_batch o items ≡ true → ((xs : List Item) → o ≡ Some xs → FitsBehind n xs) → FitsBehind n items
 unfolding FitsBehind
 last_fits n items None e h = absurd (cc)
 last_fits n items (Some xs) e h =
     let len : length items ≡ length xs = same_length items xs e in
     rw len (same_fits (n + length xs) items xs e (h xs refl))
 
-IsNumbered : List Item → Type 0
+pub IsNumbered : List Item → Type 0
 IsNumbered items = AllOf (λ (i : Item). i.fseq ≤ length items) items
 
-numbered_append : (xs ys : List Item) → IsNumbered xs → FitsBehind (length xs) ys → IsNumbered (xs ++ ys)
+pub numbered_append : (xs ys : List Item) → IsNumbered xs → FitsBehind (length xs) ys → IsNumbered (xs ++ ys)
 unfolding IsNumbered FitsBehind
 numbered_append xs ys a b =
     all_append (λ (i : Item). i.fseq ≤ length (xs ++ ys)) xs ys
     (all_mono (λ (i : Item). i.fseq ≤ length xs) (λ (i : Item). i.fseq ≤ length (xs ++ ys)) xs (λ i q. omega (arith, length-append xs ys)) a)
     (all_mono (λ (i : Item). i.fseq ≤ length xs + length ys) (λ (i : Item). i.fseq ≤ length (xs ++ ys)) ys (λ i q. omega (arith, length-append xs ys)) b)
 
-tape_step : (site : Site) (h : History) → IsLegal site h → (t : ℕ) (k : Ask) (a : Answer) (v : ℕ) → a ≡ answer_of site h t k → is_accepted a ≡ true → IsFit site h k → IsNumbered (tape_items h v) → IsNumbered (items_after k v (tape_of_mount h (asked_mount k)) (tape_items h v))
+pub tape_step : (site : Site) (h : History) → IsLegal site h → (t : ℕ) (k : Ask) (a : Answer) (v : ℕ) → a ≡ answer_of site h t k → is_accepted a ≡ true → IsFit site h k → IsNumbered (tape_items h v) → IsNumbered (items_after k v (tape_of_mount h (asked_mount k)) (tape_items h v))
 unfolding IsNumbered
 tape_step site h legal t (ask.Flushed m items) a v is y fit all =
     elim (bool_cases (tape_of_mount h m == v)) [
@@ -200,12 +201,12 @@ tape_step site h legal t (ask.Flushed m items) a v is y fit all =
 tape_step site h legal t (ask.Reclaim who u) a v is y fit all = elim (u == v) as (λ b. IsNumbered (if b then [] else tape_items h v)) [ true ↦ tt | false ↦ all ]
 tape_step site h legal t _ a v is y fit all = all
 
-tape_numbered : (site : Site) (h : History) → IsLegal site h → (v : ℕ) → IsNumbered (tape_items h v)
+pub tape_numbered : (site : Site) (h : History) → IsLegal site h → (v : ℕ) → IsNumbered (tape_items h v)
 unfolding IsNumbered
 tape_numbered site [] legal v = tt
 tape_numbered site (e ∷ h) legal v = tape_step site h legal.0 e.at e.ask e.answer v legal.1.answered legal.1.accepted legal.1.fit (tape_numbered site h legal.0 v)
 
-item_low : (f c s n : ℕ) (items : List Item) → AllOf (λ (i : Item). i.fseq ≤ n) items → list_any (is_item_of f c s) items ≡ true → s ≤ n
+pub item_low : (f c s n : ℕ) (items : List Item) → AllOf (λ (i : Item). i.fseq ≤ n) items → list_any (is_item_of f c s) items ≡ true → s ≤ n
 item_low f c s n [] a e = absurd (cc)
 item_low f c s n (i ∷ items) a e =
     elim (bool_cases (is_item_of f c s i)) [
@@ -215,6 +216,6 @@ item_low f c s n (i ∷ items) a e =
 
 pub places_below : PlacesBelow
 unfolding IsNumbered
-places_below site h legal f c p is e =
-    let least : p.fseq ≤ length (tape_items h p.tape) = item_low f c p.fseq (length (tape_items h p.tape)) (tape_items h p.tape) (tape_numbered site h legal p.tape) (places_on_tape site h legal f c p is e) in
+places_below site h legal f c p e =
+    let least : p.fseq ≤ length (tape_items h p.tape) = item_low f c p.fseq (length (tape_items h p.tape)) (tape_items h p.tape) (tape_numbered site h legal p.tape) (places_on_tape site h legal f c p e) in
     omega arith

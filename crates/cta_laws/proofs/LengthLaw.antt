@@ -28,7 +28,7 @@ use Rattle.cta_laws.proofs.FseqLaw.{any_filter, same_length}
 
 -- ---- moments
 
-moment_step : (site : Site) (h : History) (e : Entry) (n : ℕ) → IsNext site h e → n ≤ last_moment h → n ≤ e.at
+pub moment_step : (site : Site) (h : History) (e : Entry) (n : ℕ) → IsNext site h e → n ≤ last_moment h → n ≤ e.at
 moment_step site h e n next low = omega (arith, next.later)
 
 pub moments_never_fall : MomentsNeverFall
@@ -37,28 +37,28 @@ moments_never_fall site (e ∷ newer) h legal = moment_step site (newer ++ h) e 
 
 -- ---- entries that may be refused for the weight weigh at most the limit
 
-bounded_weight : History → ℕ
+pub bounded_weight : History → ℕ
 bounded_weight [] = 0
 bounded_weight (e ∷ h) = (if may_be_refused_for_weight e.ask then weight_of_entry e.ask e.answer else 0) + bounded_weight h
 
 -- how many entries are of asks that are never refused for the weight
-unbounded : History → ℕ
+pub unbounded : History → ℕ
 unbounded [] = 0
 unbounded (e ∷ h) = (if may_be_refused_for_weight e.ask then 0 else 1) + unbounded h
 
-bounded_le : (h : History) → bounded_weight h ≤ weight_of h
+pub bounded_le : (h : History) → bounded_weight h ≤ weight_of h
 unfolding bounded_weight
 bounded_le [] = omega arith
 bounded_le (e ∷ h) = elim (may_be_refused_for_weight e.ask) as (λ b. (if b then weight_of_entry e.ask e.answer else 0) + bounded_weight h ≤ weight_of_entry e.ask e.answer + weight_of h) [ true ↦ omega (arith, bounded_le h) | false ↦ omega (arith, bounded_le h) ]
 
-not_heavy : (heavy : Bool) (a b : Answer) → b ≡ refuse refusal.HistoryFull heavy a → is_accepted b ≡ true → (heavy ≡ false) × (b ≡ a)
+pub not_heavy : (heavy : Bool) (a b : Answer) → b ≡ refuse refusal.HistoryFull heavy a → is_accepted b ≡ true → (heavy ≡ false) × (b ≡ a)
 not_heavy true a b e y = absurd (cc)
 not_heavy false a b e y = (refl, e)
 
 pub ltb_false : (a b : ℕ) → nat_lt a b ≡ false → b ≤ a
 ltb_false a b e = grind (arith, nat_tests)
 
-bounded_fits : (site : Site) (h : History) (e : Entry) → IsNext site h e → bounded_weight h ≤ site.limits.history → bounded_weight (e ∷ h) ≤ site.limits.history
+pub bounded_fits : (site : Site) (h : History) (e : Entry) → IsNext site h e → bounded_weight h ≤ site.limits.history → bounded_weight (e ∷ h) ≤ site.limits.history
 unfolding bounded_weight
 bounded_fits site h e next low =
     elim (bool_cases (may_be_refused_for_weight e.ask)) [
@@ -72,23 +72,23 @@ bounded_fits site h e next low =
       | inr miss ↦ rw miss (omega arith)
     ]
 
-bounded_all : (site : Site) (h : History) → IsLegal site h → bounded_weight h ≤ site.limits.history
+pub bounded_all : (site : Site) (h : History) → IsLegal site h → bounded_weight h ≤ site.limits.history
 unfolding bounded_weight
 bounded_all site [] legal = omega arith
 bounded_all site (e ∷ h) legal = bounded_fits site h e legal.1 (bounded_all site h legal.0)
 
 -- ---- sums over the numbers of mounts
 
-sum_to : (ℕ → ℕ) → ℕ → ℕ
+pub sum_to : (ℕ → ℕ) → ℕ → ℕ
 sum_to g zero = g zero
 sum_to g (suc n) = sum_to g n + g (suc n)
 
-sum_le : (g k : ℕ → ℕ) (n : ℕ) → ((m : ℕ) → m ≤ n → g m ≤ k m) → sum_to g n ≤ sum_to k n
+pub sum_le : (g k : ℕ → ℕ) (n : ℕ) → ((m : ℕ) → m ≤ n → g m ≤ k m) → sum_to g n ≤ sum_to k n
 unfolding sum_to
 sum_le g k zero h = h zero (omega arith)
 sum_le g k (suc n) h = omega (arith, sum_le g k n (λ m q. h m (omega arith)), h (suc n) (omega arith))
 
-sum_one : (g k : ℕ → ℕ) (n i c d : ℕ) → i ≤ n → ((m : ℕ) → m ≤ n → (i == m) ≡ false → g m ≤ k m) → g i + d ≤ k i + c → sum_to g n + d ≤ sum_to k n + c
+pub sum_one : (g k : ℕ → ℕ) (n i c d : ℕ) → i ≤ n → ((m : ℕ) → m ≤ n → (i == m) ≡ false → g m ≤ k m) → g i + d ≤ k i + c → sum_to g n + d ≤ sum_to k n + c
 unfolding sum_to
 sum_one g k zero i c d high h at = (let same : i ≡ 0 = omega arith in subst (λ (m : ℕ). g m + d ≤ k m + c) same at)
 sum_one g k (suc n) i c d high h at =
@@ -106,22 +106,22 @@ sum_one g k (suc n) i c d high h at =
     other : (m : ℕ) → m ≤ n → i ≡ suc n → (i == m) ≡ false
     other m q same = elim (eqb_tells i m) [ inl y ↦ (let bad : i ≡ m = y.1 in absurd (omega arith)) | inr y ↦ y.0 ]
 
-one_if : Bool → ℕ
+pub one_if : Bool → ℕ
 one_if true = 1
 one_if false = 0
 
 -- what a mount still owes: an entry for each item claimed, and one for its End
-owed : History → ℕ → ℕ
+pub owed : History → ℕ → ℕ
 owed h m = length (claimed_items h m) + one_if (is_open h m)
 
 -- ---- what an entry does to the items claimed
 
-filter_le : {A : Type 0} (test : A → Bool) (xs : List A) → length (filter test xs) ≤ length xs
+pub filter_le : {A : Type 0} (test : A → Bool) (xs : List A) → length (filter test xs) ≤ length xs
 filter_le test [] = omega arith
 filter_le test (x ∷ xs) = elim (test x) as (λ b. length (if b then x ∷ filter test xs else filter test xs) ≤ length (x ∷ xs)) [ true ↦ omega (arith, filter_le test xs) | false ↦ omega (arith, filter_le test xs) ]
 
 -- a job that is claimed and named is taken out
-without_less : (js : List Job) (items : List Item) (j : Job) → has_job j js ≡ true → has_job j (item_jobs items) ≡ true → length (without_jobs js items) + 1 ≤ length items
+pub without_less : (js : List Job) (items : List Item) (j : Job) → has_job j js ≡ true → has_job j (item_jobs items) ≡ true → length (without_jobs js items) + 1 ≤ length items
 without_less js [] j named there = absurd (cc)
 without_less js (i ∷ items) j named there =
     elim (bool_cases (same_job j i.job)) [
@@ -137,30 +137,30 @@ without_less js (i ∷ items) j named there =
 pub job_self : (j : Job) → same_job j j ≡ true
 job_self j = rw (eq-eqb j.birth j.birth refl, eq-eqb j.file j.file refl, eq-eqb j.copy j.copy refl) refl
 
-has_first : (j : Job) (js : List Job) → has_job j (j ∷ js) ≡ true
+pub has_first : (j : Job) (js : List Job) → has_job j (j ∷ js) ≡ true
 has_first j js = rw (job_self j) refl
 
-all_less : (js : List Job) (items : List Item) → 1 ≤ length js → list_all (λ j. has_job j (item_jobs items)) js ≡ true → length (without_jobs js items) + 1 ≤ length items
+pub all_less : (js : List Job) (items : List Item) → 1 ≤ length js → list_all (λ j. has_job j (item_jobs items)) js ≡ true → length (without_jobs js items) + 1 ≤ length items
 all_less [] items some all = absurd (omega arith)
 all_less (j ∷ js) items some all = without_less (j ∷ js) items j (has_first j js) (and_parts _ _ all).0
 
 -- ---- what has not begun owes nothing
 
-open_none : (n m : ℕ) (ms : List ℕ) → AllUpTo n ms → n < m → has_number m ms ≡ false
+pub open_none : (n m : ℕ) (ms : List ℕ) → AllUpTo n ms → n < m → has_number m ms ≡ false
 open_none n m [] all high = refl
 open_none n m (k ∷ ms) all high =
     elim (eqb_tells m k) [ inl x ↦ (let bad : m ≡ k = x.1 in let low : k ≤ n = all.0 in absurd (omega arith)) | inr x ↦ rw x.0 (open_none n m ms all.1 high) ]
 
-claim_misses : (site : Site) (h : History) (t k m : ℕ) (items : Listed Item) (evicted : Listed ℕ) → answer.Batch items evicted ≡ answer_of site h t (ask.Claim k) → length h < m → (k == m) ≡ false
+pub claim_misses : (site : Site) (h : History) (t k m : ℕ) (items : Listed Item) (evicted : Listed ℕ) → answer.Batch items evicted ≡ answer_of site h t (ask.Claim k) → length h < m → (k == m) ≡ false
 claim_misses site h t k m items evicted is high =
     let low : k ≤ length h = open_older h k (claim_is_open site h t k items evicted is) in
     elim (eqb_tells k m) [ inl x ↦ (let bad : k ≡ m = x.1 in absurd (omega arith)) | inr x ↦ x.0 ]
 
-empty_if : (b : Bool) (js : List Job) → (if b then without_jobs js [] else []) ≡ []
+pub empty_if : (b : Bool) (js : List Job) → (if b then without_jobs js [] else []) ≡ []
 empty_if true js = refl
 empty_if false js = refl
 
-nothing_claimed : (site : Site) (h : History) (t m : ℕ) (k : Ask) (a : Answer) (before : List Item) → a ≡ answer_of site h t k → length h < m → before ≡ [] → claimed_after k a m before ≡ []
+pub nothing_claimed : (site : Site) (h : History) (t m : ℕ) (k : Ask) (a : Answer) (before : List Item) → a ≡ answer_of site h t k → length h < m → before ≡ [] → claimed_after k a m before ≡ []
 nothing_claimed site h t m (ask.Claim k) (answer.Batch items evicted) before is high none = rw (claim_misses site h t k m items evicted is high) none
 nothing_claimed site h t m (ask.Flushed k items) a before is high none = rw none (empty_if (k == m) (item_jobs items.items))
 nothing_claimed site h t m (ask.Recalled k job) a before is high none = rw none (empty_if (k == m) (job ∷ []))
@@ -173,29 +173,29 @@ claimed_new site (e ∷ h) legal m high = nothing_claimed site h e.at m e.ask e.
 
 -- ---- one entry
 
-owed_after : History → Ask → Answer → ℕ → ℕ
+pub owed_after : History → Ask → Answer → ℕ → ℕ
 owed_after h k a m = length (claimed_after k a m (claimed_items h m)) + one_if (has_number m (open_after k a (length h + 1) (open_mounts h)))
 
 pub not_unknown : (is : Bool) (x b : Answer) → b ≡ refuse refusal.Unknown (not is) x → is_accepted b ≡ true → is ≡ true
 not_unknown true x b e y = refl
 not_unknown false x b e y = absurd (cc)
 
-open_new : (h : History) → has_number (suc (length h)) (open_mounts h) ≡ false
+pub open_new : (h : History) → has_number (suc (length h)) (open_mounts h) ≡ false
 open_new h = open_none (length h) (suc (length h)) (open_mounts h) (opens_up_to h) (omega arith)
 
-same_new : (h : History) (k : ℕ) → k ≤ length h → (k == suc (length h)) ≡ false
+pub same_new : (h : History) (k : ℕ) → k ≤ length h → (k == suc (length h)) ≡ false
 same_new h k low = elim (eqb_tells k (suc (length h))) [ inl x ↦ (let bad : k ≡ suc (length h) = x.1 in absurd (omega arith)) | inr x ↦ x.0 ]
 
 -- the mounts so far owe at most this much more, or this much less, where one of them is asked
-if_same : (b : Bool) (xs ys : List Item) → b ≡ false → length (if b then xs else ys) ≡ length ys
+pub if_same : (b : Bool) (xs ys : List Item) → b ≡ false → length (if b then xs else ys) ≡ length ys
 if_same true xs ys e = absurd (cc)
 if_same false xs ys e = refl
 
-less_by : (h : History) (k i : ℕ) (js : List Job) → length (without_jobs js (claimed_items h i)) + 1 ≤ length (claimed_items h i) → k ≡ i → length (if k == i then without_jobs js (claimed_items h i) else claimed_items h i) + 1 ≤ length (claimed_items h i)
+pub less_by : (h : History) (k i : ℕ) (js : List Job) → length (without_jobs js (claimed_items h i)) + 1 ≤ length (claimed_items h i) → k ≡ i → length (if k == i then without_jobs js (claimed_items h i) else claimed_items h i) + 1 ≤ length (claimed_items h i)
 less_by h k i js less e = rw (eq-eqb k i e) less
 
 -- an ask that resolves a job of an open mount
-resolves : (h : History) (g : ℕ → ℕ) (i : ℕ) (js : List Job) → is_open h i ≡ true → length (without_jobs js (claimed_items h i)) + 1 ≤ length (claimed_items h i) → ((m : ℕ) → g m ≡ length (if i == m then without_jobs js (claimed_items h m) else claimed_items h m) + one_if (has_number m (open_mounts h))) → sum_to g (length h) + 1 ≤ sum_to (owed h) (length h)
+pub resolves : (h : History) (g : ℕ → ℕ) (i : ℕ) (js : List Job) → is_open h i ≡ true → length (without_jobs js (claimed_items h i)) + 1 ≤ length (claimed_items h i) → ((m : ℕ) → g m ≡ length (if i == m then without_jobs js (claimed_items h m) else claimed_items h m) + one_if (has_number m (open_mounts h))) → sum_to g (length h) + 1 ≤ sum_to (owed h) (length h)
 unfolding owed
 resolves h g i js op less is =
     let low : i ≤ length h = open_older h i op in
@@ -205,13 +205,13 @@ resolves h g i js op less is =
     (rw (is i) (omega (arith, less_by h i i js less refl))) in
     omega arith
 
-resolved_new : (site : Site) (h : History) → IsLegal site h → (g : ℕ → ℕ) (i : ℕ) (js : List Job) → is_open h i ≡ true → ((m : ℕ) → g m ≡ length (if i == m then without_jobs js (claimed_items h m) else claimed_items h m) + one_if (has_number m (open_mounts h))) → g (suc (length h)) ≡ 0
+pub resolved_new : (site : Site) (h : History) → IsLegal site h → (g : ℕ → ℕ) (i : ℕ) (js : List Job) → is_open h i ≡ true → ((m : ℕ) → g m ≡ length (if i == m then without_jobs js (claimed_items h m) else claimed_items h m) + one_if (has_number m (open_mounts h))) → g (suc (length h)) ≡ 0
 unfolding one_if
 resolved_new site h legal g i js op is = rw (is (suc (length h)), same_new h i (open_older h i op), claimed_new site h legal (suc (length h)) (omega arith), open_new h) refl
 
 -- ---- a Flushed flushes something
 
-last_some_step : (site : Site) (h : History) (t m : ℕ) (k : Ask) (a : Answer) (o : Option (List Item)) (items : List Item) → a ≡ answer_of site h t k → (o ≡ Some items → 1 ≤ length items) → batch_or (batch_in k a m) o ≡ Some items → 1 ≤ length items
+pub last_some_step : (site : Site) (h : History) (t m : ℕ) (k : Ask) (a : Answer) (o : Option (List Item)) (items : List Item) → a ≡ answer_of site h t k → (o ≡ Some items → 1 ≤ length items) → batch_or (batch_in k a m) o ≡ Some items → 1 ≤ length items
 last_some_step site h t m (ask.Claim k) (answer.Batch xs evicted) o items is older =
     elim (k == m) as (λ b. batch_or (if b then Some xs.items else None) o ≡ Some items → 1 ≤ length items) [
       | true ↦ λ e.
@@ -222,21 +222,21 @@ last_some_step site h t m (ask.Claim k) (answer.Batch xs evicted) o items is old
     ]
 last_some_step site h t m _ a o items is older = λ e. older e
 
-last_some : (site : Site) (h : History) → IsLegal site h → (m : ℕ) (items : List Item) → last_batch h m ≡ Some items → 1 ≤ length items
+pub last_some : (site : Site) (h : History) → IsLegal site h → (m : ℕ) (items : List Item) → last_batch h m ≡ Some items → 1 ≤ length items
 last_some site [] legal m items e = absurd (cc)
 last_some site (e ∷ h) legal m items is = last_some_step site h e.at m e.ask e.answer (last_batch h m) items legal.1.answered (λ q. last_some site h legal.0 m items q) is
 
-flushed_some : (items : List Item) (o : Option (List Item)) → is_last_batch o items ≡ true → ((xs : List Item) → o ≡ Some xs → 1 ≤ length xs) → 1 ≤ length items
+pub flushed_some : (items : List Item) (o : Option (List Item)) → is_last_batch o items ≡ true → ((xs : List Item) → o ≡ Some xs → 1 ≤ length xs) → 1 ≤ length items
 flushed_some items None e h = absurd (cc)
 flushed_some items (Some xs) e h = rw (same_length items xs e) (h xs refl)
 
-jobs_length : (items : List Item) → length (item_jobs items) ≡ length items
+pub jobs_length : (items : List Item) → length (item_jobs items) ≡ length items
 jobs_length [] = refl
 jobs_length (i ∷ items) = ap suc (jobs_length items)
 
 -- ---- the End of a mount
 
-one_mono : (b c : Bool) → (b ≡ true → c ≡ true) → one_if b ≤ one_if c
+pub one_mono : (b c : Bool) → (b ≡ true → c ≡ true) → one_if b ≤ one_if c
 unfolding one_if
 one_mono true c h = (let is : c ≡ true = h refl in rw is (omega arith))
 one_mono false c h = omega arith
@@ -250,35 +250,35 @@ filtered_out i (m ∷ ms) =
     turned : (m == i) ≡ false → (i == m) ≡ false
     turned e = elim (eqb_tells i m) [ inl y ↦ (let back : m ≡ i = sym y.1 in let bad : m == i ≡ true = eq-eqb m i back in absurd (cc)) | inr y ↦ y.0 ]
 
-filtered_none : (i m : ℕ) (ms : List ℕ) → has_number m ms ≡ false → has_number m (filter (λ x. not (x == i)) ms) ≡ false
+pub filtered_none : (i m : ℕ) (ms : List ℕ) → has_number m ms ≡ false → has_number m (filter (λ x. not (x == i)) ms) ≡ false
 filtered_none i m ms none =
     elim (bool_cases (has_number m (filter (λ x. not (x == i)) ms)))
     [ inl hit ↦ (let bad : has_number m ms ≡ true = any_filter (λ x. not (x == i)) m ms hit in absurd (cc)) | inr miss ↦ miss ]
 
 -- ---- the step
 
-Total : History → Ask → Answer → ℕ
+pub Total : History → Ask → Answer → ℕ
 Total h k a = sum_to (owed_after h k a) (length h) + owed_after h k a (suc (length h))
 
-spent : Ask → ℕ
+pub spent : Ask → ℕ
 spent k = if may_be_refused_for_weight k then 0 else 1
 
-gained : Ask → Answer → ℕ
+pub gained : Ask → Answer → ℕ
 gained k a = if may_be_refused_for_weight k then weight_of_entry k a else 0
 
-resolved : (site : Site) (h : History) → IsLegal site h → (g : ℕ → ℕ) (i : ℕ) (js : List Job) → is_open h i ≡ true → length (without_jobs js (claimed_items h i)) + 1 ≤ length (claimed_items h i) → ((m : ℕ) → g m ≡ length (if i == m then without_jobs js (claimed_items h m) else claimed_items h m) + one_if (has_number m (open_mounts h))) → 1 + (sum_to g (length h) + g (suc (length h))) ≤ sum_to (owed h) (length h) + 0
+pub resolved : (site : Site) (h : History) → IsLegal site h → (g : ℕ → ℕ) (i : ℕ) (js : List Job) → is_open h i ≡ true → length (without_jobs js (claimed_items h i)) + 1 ≤ length (claimed_items h i) → ((m : ℕ) → g m ≡ length (if i == m then without_jobs js (claimed_items h m) else claimed_items h m) + one_if (has_number m (open_mounts h))) → 1 + (sum_to g (length h) + g (suc (length h))) ≤ sum_to (owed h) (length h) + 0
 resolved site h legal g i js op less is =
     let most : sum_to g (length h) + 1 ≤ sum_to (owed h) (length h) = resolves h g i js op less is in
     let new : g (suc (length h)) ≡ 0 = resolved_new site h legal g i js op is in
     omega arith
 
 -- an ask that resolves claims of a mount names jobs that it claims, of which there are some
-known_less : (h : History) (i : ℕ) (js : List Job) → is_known h i js ≡ true → 1 ≤ length js → (is_open h i ≡ true) × (length (without_jobs js (claimed_items h i)) + 1 ≤ length (claimed_items h i))
+pub known_less : (h : History) (i : ℕ) (js : List Job) → is_known h i js ≡ true → 1 ≤ length js → (is_open h i ≡ true) × (length (without_jobs js (claimed_items h i)) + 1 ≤ length (claimed_items h i))
 known_less h i js known some =
     let parts : (is_open h i ≡ true) × ((claims_all h i js && not (names_twice js)) ≡ true) = and_parts _ _ known in
     (parts.0, all_less js (claimed_items h i) some (and_parts (claims_all h i js) _ parts.1).0)
 
-step : (site : Site) (h : History) → IsLegal site h → (t : ℕ) (k : Ask) (a : Answer) → a ≡ answer_of site h t k → is_accepted a ≡ true → IsFit site h k → spent k + Total h k a ≤ sum_to (owed h) (length h) + gained k a
+pub step : (site : Site) (h : History) → IsLegal site h → (t : ℕ) (k : Ask) (a : Answer) → a ≡ answer_of site h t k → is_accepted a ≡ true → IsFit site h k → spent k + Total h k a ≤ sum_to (owed h) (length h) + gained k a
 unfolding Total spent gained owed owed_after one_if
 step site h legal t (ask.Flushed i items) a is y fit =
     let known : (is_known h i (item_jobs items.items) ≡ true) × (is_last_batch (last_batch h i) items.items ≡ true) = flushed_known site h t i items a is y in
@@ -324,7 +324,7 @@ step site h legal t k a is y fit =
     let new : owed_after h k a (suc (length h)) ≡ 0 = rw (claimed_new site h legal (suc (length h)) (omega arith), open_new h) refl in
     omega arith
 
-owes : (site : Site) (h : History) → IsLegal site h → unbounded h + sum_to (owed h) (length h) ≤ bounded_weight h
+pub owes : (site : Site) (h : History) → IsLegal site h → unbounded h + sum_to (owed h) (length h) ≤ bounded_weight h
 unfolding Total spent gained owed owed_after one_if sum_to unbounded bounded_weight
 owes site [] legal = omega arith
 owes site (e ∷ h) legal =
@@ -332,7 +332,7 @@ owes site (e ∷ h) legal =
     let now : spent e.ask + Total h e.ask e.answer ≤ sum_to (owed h) (length h) + gained e.ask e.answer = step site h legal.0 e.at e.ask e.answer legal.1.answered legal.1.accepted legal.1.fit in
     omega arith
 
-length_le : (h : History) → length h ≤ unbounded h + bounded_weight h
+pub length_le : (h : History) → length h ≤ unbounded h + bounded_weight h
 unfolding unbounded bounded_weight
 length_le [] = omega arith
 length_le (e ∷ h) = elim (may_be_refused_for_weight e.ask) as (λ b. length (e ∷ h) ≤ ((if b then 0 else 1) + unbounded h) + ((if b then weight_of_entry e.ask e.answer else 0) + bounded_weight h)) [ true ↦ omega (arith, length_le h) | false ↦ omega (arith, length_le h) ]

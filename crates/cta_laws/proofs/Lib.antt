@@ -1,25 +1,39 @@
-mod Tests
-mod FlushedLaw
-mod OnceLaw
-mod OpenMounts
-mod QuotaLaw
-mod Claims
-mod PlaceLaw
-mod FseqLaw
-mod LengthLaw
-mod EndLaw
-mod ClosedLaw
-mod LostLaw
-mod ResidentLaw
-mod MountLaw
-mod ClaimLaw
-mod Sums
-mod Loads
-mod CapacityLaw
-mod BufferLaw
-mod StageLaw
-mod RangeLaw
-mod StandLaw
-mod KeyLaw
-mod PoolLaw
-mod JobLaw
+pub mod Tests
+pub mod FlushedLaw
+pub mod OnceLaw
+pub mod OpenMounts
+pub mod QuotaLaw
+pub mod Claims
+pub mod PlaceLaw
+pub mod FseqLaw
+pub mod LengthLaw
+pub mod EndLaw
+pub mod ClosedLaw
+pub mod LostLaw
+pub mod ResidentLaw
+pub mod MountLaw
+pub mod ClaimLaw
+pub mod Sums
+pub mod Loads
+pub mod CapacityLaw
+pub mod BufferLaw
+pub mod StageLaw
+pub mod RangeLaw
+pub mod StandLaw
+pub mod KeyLaw
+pub mod PoolLaw
+pub mod JobLaw
+pub mod Bools
+pub mod Known
+pub mod Ways
+pub mod ClaimedSizes
+pub mod Claimers
+pub mod ClaimedOnce
+pub mod Paths
+pub mod FileFrames
+pub mod Accepted
+pub mod Frames
+pub mod JobFiles
+pub mod RecalledCopy
+pub mod Ranges
+pub mod Requests

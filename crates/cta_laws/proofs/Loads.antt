@@ -29,18 +29,18 @@ use Rattle.cta_laws.proofs.Sums.{total, total_is, total_append, total_filter, to
 abbrev pub claimed_total : (Mount → Bool) → History → ℕ
 claimed_total test h = sum_by (λ m. size_of_items (claimed_items h m)) (open_where test h)
 
-load : (Mount → Bool) → History → List Item → ℕ → ℕ
+pub load : (Mount → Bool) → History → List Item → ℕ → ℕ
 load test h items m = if is_mount test (mount_of h m) then total size_in items else 0
 
-loads : (Mount → Bool) → History → ℕ → ℕ
+pub loads : (Mount → Bool) → History → ℕ → ℕ
 loads test h m = load test h (claimed_items h m) m
 
-total_same : {A : Type 0} (g k : A → ℕ) (xs : List A) → ((x : A) → g x ≡ k x) → total g xs ≡ total k xs
+pub total_same : {A : Type 0} (g k : A → ℕ) (xs : List A) → ((x : A) → g x ≡ k x) → total g xs ≡ total k xs
 unfolding total
 total_same g k [] h = refl
 total_same g k (x ∷ xs) h = rw (h x, total_same g k xs h) refl
 
-claimed_is : (test : Mount → Bool) (h : History) → claimed_total test h ≡ total (loads test h) (open_mounts h)
+pub claimed_is : (test : Mount → Bool) (h : History) → claimed_total test h ≡ total (loads test h) (open_mounts h)
 unfolding loads load
 claimed_is test h =
     total_is (λ m. size_of_items (claimed_items h m)) (open_where test h)
@@ -63,40 +63,40 @@ if_asked test h k n = if is_mount test (mount_of h (asked_mount k)) then n else 
 -- ---- one entry
 
 -- a mount that an entry is about is older
-load_older : (test : Mount → Bool) (e : Entry) (h : History) (items : List Item) (m : ℕ) → m ≤ length h → load test (e ∷ h) items m ≡ load test h items m
+pub load_older : (test : Mount → Bool) (e : Entry) (h : History) (items : List Item) (m : ℕ) → m ≤ length h → load test (e ∷ h) items m ≡ load test h items m
 unfolding load
 load_older test e h items m low = ap (λ (o : Option Mount). if is_mount test o then total size_in items else 0) (mount_older e h m low)
 
 -- as many bytes where no claim is added
-loads_same : (test : Mount → Bool) (e : Entry) (h : History) (m : ℕ) → m ≤ length h → total size_in (claimed_items (e ∷ h) m) ≤ total size_in (claimed_items h m) → loads test (e ∷ h) m ≤ loads test h m
+pub loads_same : (test : Mount → Bool) (e : Entry) (h : History) (m : ℕ) → m ≤ length h → total size_in (claimed_items (e ∷ h) m) ≤ total size_in (claimed_items h m) → loads test (e ∷ h) m ≤ loads test h m
 unfolding loads load
 loads_same test e h m low less = rw (mount_older e h m low) (elim (is_mount test (mount_of h m)) as (λ b. (if b then total size_in (claimed_items (e ∷ h) m) else 0) ≤ (if b then total size_in (claimed_items h m) else 0)) [ true ↦ less | false ↦ omega arith ])
 
 -- the mount that an entry is about
-loads_one : (test : Mount → Bool) (e : Entry) (h : History) (m c d : ℕ) → m ≤ length h → total size_in (claimed_items (e ∷ h) m) + d ≤ total size_in (claimed_items h m) + c → loads test (e ∷ h) m + (if is_mount test (mount_of h m) then d else 0) ≤ loads test h m + (if is_mount test (mount_of h m) then c else 0)
+pub loads_one : (test : Mount → Bool) (e : Entry) (h : History) (m c d : ℕ) → m ≤ length h → total size_in (claimed_items (e ∷ h) m) + d ≤ total size_in (claimed_items h m) + c → loads test (e ∷ h) m + (if is_mount test (mount_of h m) then d else 0) ≤ loads test h m + (if is_mount test (mount_of h m) then c else 0)
 unfolding loads load
 loads_one test e h m c d low less =
     rw (mount_older e h m low) (elim (is_mount test (mount_of h m)) as (λ b. (if b then total size_in (claimed_items (e ∷ h) m) else 0) + (if b then d else 0) ≤ (if b then total size_in (claimed_items h m) else 0) + (if b then c else 0)) [ true ↦ less | false ↦ omega arith ])
 
 -- an entry about the open mount m, which leaves the open mounts and what others claim
-one_step : (test : Mount → Bool) (e : Entry) (h : History) (m c d : ℕ) → is_open h m ≡ true → ((n : ℕ) → (m == n) ≡ false → claimed_items (e ∷ h) n ≡ claimed_items h n) → total size_in (claimed_items (e ∷ h) m) + d ≤ total size_in (claimed_items h m) + c → total (loads test (e ∷ h)) (open_mounts h) + (if is_mount test (mount_of h m) then d else 0) ≤ total (loads test h) (open_mounts h) + (if is_mount test (mount_of h m) then c else 0)
+pub one_step : (test : Mount → Bool) (e : Entry) (h : History) (m c d : ℕ) → is_open h m ≡ true → ((n : ℕ) → (m == n) ≡ false → claimed_items (e ∷ h) n ≡ claimed_items h n) → total size_in (claimed_items (e ∷ h) m) + d ≤ total size_in (claimed_items h m) + c → total (loads test (e ∷ h)) (open_mounts h) + (if is_mount test (mount_of h m) then d else 0) ≤ total (loads test h) (open_mounts h) + (if is_mount test (mount_of h m) then c else 0)
 one_step test e h m c d op others less =
     total_one (loads test (e ∷ h)) (loads test h) (length h) m (if is_mount test (mount_of h m) then c else 0) (if is_mount test (mount_of h m) then d else 0) (open_mounts h) (opens_up_to h) (open_distinct h) op
     (λ n low miss. loads_same test e h n low (rw (others n miss) (omega arith)))
     (loads_one test e h m c d (open_older h m op) less)
 
 -- an entry that adds no claim and opens no mount
-no_step : (test : Mount → Bool) (e : Entry) (h : History) (ms : List ℕ) → AllUpTo (length h) ms → ((n : ℕ) → claimed_items (e ∷ h) n ≡ claimed_items h n) → total (loads test (e ∷ h)) ms ≤ total (loads test h) ms
+pub no_step : (test : Mount → Bool) (e : Entry) (h : History) (ms : List ℕ) → AllUpTo (length h) ms → ((n : ℕ) → claimed_items (e ∷ h) n ≡ claimed_items h n) → total (loads test (e ∷ h)) ms ≤ total (loads test h) ms
 no_step test e h ms all others = total_le (loads test (e ∷ h)) (loads test h) (length h) ms all (λ n low. loads_same test e h n low (rw (others n) (omega arith)))
 
 pub if_zero : (b : Bool) → (if b then 0 else 0) ≤ 0
 if_zero true = omega arith
 if_zero false = omega arith
 
-Step : (Mount → Bool) → Entry → History → Ask → Answer → Type 0
+pub Step : (Mount → Bool) → Entry → History → Ask → Answer → Type 0
 Step test e h k a = total (loads test (e ∷ h)) (open_after k a (length h + 1) (open_mounts h)) + if_asked test h k (gave h k) ≤ total (loads test h) (open_mounts h) + if_asked test h k (took k a)
 
-known_parts : (h : History) (m : ℕ) (js : List Job) → is_known h m js ≡ true → (is_open h m ≡ true) × ((claims_all h m js ≡ true) × (names_twice js ≡ false))
+pub known_parts : (h : History) (m : ℕ) (js : List Job) → is_known h m js ≡ true → (is_open h m ≡ true) × ((claims_all h m js ≡ true) × (names_twice js ≡ false))
 known_parts h m js known =
     let p : (is_open h m ≡ true) × ((claims_all h m js && not (names_twice js)) ≡ true) = and_parts _ _ known in
     let q : (claims_all h m js ≡ true) × (not (names_twice js) ≡ true) = and_parts _ _ p.1 in
@@ -107,7 +107,7 @@ known_parts h m js known =
     not_is false e = refl
 
 -- what ends claims of an open mount takes them out
-gives : (test : Mount → Bool) (site : Site) (h : History) (e : Entry) (m : ℕ) (js : List Job) → IsLegal site h → is_known h m js ≡ true → ((n : ℕ) → claimed_items (e ∷ h) n ≡ (if m == n then without_jobs js (claimed_items h n) else claimed_items h n)) → total (loads test (e ∷ h)) (open_mounts h) + (if is_mount test (mount_of h m) then total (file_size h) js else 0) ≤ total (loads test h) (open_mounts h)
+pub gives : (test : Mount → Bool) (site : Site) (h : History) (e : Entry) (m : ℕ) (js : List Job) → IsLegal site h → is_known h m js ≡ true → ((n : ℕ) → claimed_items (e ∷ h) n ≡ (if m == n then without_jobs js (claimed_items h n) else claimed_items h n)) → total (loads test (e ∷ h)) (open_mounts h) + (if is_mount test (mount_of h m) then total (file_size h) js else 0) ≤ total (loads test h) (open_mounts h)
 gives test site h e m js legal known after =
     let parts : (is_open h m ≡ true) × ((claims_all h m js ≡ true) × (names_twice js ≡ false)) = known_parts h m js known in
     let here : claimed_items (e ∷ h) m ≡ without_jobs js (claimed_items h m) = after m ∙ same (m == m) (eq-eqb m m refl) in
@@ -125,30 +125,30 @@ gives test site h e m js legal known after =
     other true n x = absurd (cc)
     other false n x = refl
 
-flushed_of_file : (site : Site) (h : History) → IsLegal site h → (t m : ℕ) (items : Listed Item) (a : Answer) → a ≡ answer_of site h t (ask.Flushed m items) → is_accepted a ≡ true → AllOf (IsOfFile h) items.items
+pub flushed_of_file : (site : Site) (h : History) → IsLegal site h → (t m : ℕ) (items : Listed Item) (a : Answer) → a ≡ answer_of site h t (ask.Flushed m items) → is_accepted a ≡ true → AllOf (IsOfFile h) items.items
 flushed_of_file site h legal t m items a is y = batch_of_file h items.items (last_batch h m) (flushed_known site h t m items a is y).1 (λ xs q. last_of_file site h legal m xs q)
 
-one_size : (h : History) (j : Job) → total (file_size h) (j ∷ []) ≡ size_of h j.file
+pub one_size : (h : History) (j : Job) → total (file_size h) (j ∷ []) ≡ size_of h j.file
 unfolding total
 one_size h j = omega arith
 
-after_is : (e : Entry) (h : History) (k : Ask) (a : Answer) → e.ask ≡ k → e.answer ≡ a → (n : ℕ) → claimed_items (e ∷ h) n ≡ claimed_after k a n (claimed_items h n)
+pub after_is : (e : Entry) (h : History) (k : Ask) (a : Answer) → e.ask ≡ k → e.answer ≡ a → (n : ℕ) → claimed_items (e ∷ h) n ≡ claimed_after k a n (claimed_items h n)
 after_is e h k a ek ea n = ap (λ (x : Ask). claimed_after x e.answer n (claimed_items h n)) ek ∙ ap (λ (x : Answer). claimed_after k x n (claimed_items h n)) ea
 
-load_none : (test : Mount → Bool) (e : Entry) (h : History) (m : ℕ) → claimed_items (e ∷ h) m ≡ [] → loads test (e ∷ h) m ≤ 0
+pub load_none : (test : Mount → Bool) (e : Entry) (h : History) (m : ℕ) → claimed_items (e ∷ h) m ≡ [] → loads test (e ∷ h) m ≤ 0
 unfolding loads load total
 load_none test e h m none = rw none (if_zero (is_mount test (mount_of (e ∷ h) m)))
 
-claim_others : (b : Bool) (xs ys : List Item) → b ≡ false → (if b then xs ++ ys else xs) ≡ xs
+pub claim_others : (b : Bool) (xs ys : List Item) → b ≡ false → (if b then xs ++ ys else xs) ≡ xs
 claim_others true xs ys x = absurd (cc)
 claim_others false xs ys x = refl
 
-claim_here : (b : Bool) (xs ys : List Item) → b ≡ true → (if b then xs ++ ys else xs) ≡ xs ++ ys
+pub claim_here : (b : Bool) (xs ys : List Item) → b ≡ true → (if b then xs ++ ys else xs) ≡ xs ++ ys
 claim_here true xs ys x = refl
 claim_here false xs ys x = absurd (cc)
 
 -- what the open mounts that pass a test claim grows by what a Claim of one of them takes, and falls by what one of them gives
-step : (test : Mount → Bool) (site : Site) (h : History) (e : Entry) (k : Ask) (a : Answer) → IsLegal site h → e.ask ≡ k → e.answer ≡ a → a ≡ answer_of site h e.at k → is_accepted a ≡ true → Step test e h k a
+pub step : (test : Mount → Bool) (site : Site) (h : History) (e : Entry) (k : Ask) (a : Answer) → IsLegal site h → e.ask ≡ k → e.answer ≡ a → a ≡ answer_of site h e.at k → is_accepted a ≡ true → Step test e h k a
 unfolding Step total
 step test site h e (ask.Flushed m items) a legal ek ea is y =
     let known : (is_known h m (item_jobs items.items) ≡ true) × (is_last_batch (last_batch h m) items.items ≡ true) = flushed_known site h e.at m items a is y in

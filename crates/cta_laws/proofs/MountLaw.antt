@@ -16,8 +16,8 @@ use Rattle.cta_model.specs.History.{History, has_number, is_empty}
 use Rattle.cta_model.specs.Files.{is_live}
 use Rattle.cta_model.specs.Mounts.{mount_of, mount_in, tape_by, tape_of_mount, asked_mount, is_open, is_mounted, open_mounts, open_after, claimed_items, claimed_after, item_jobs, last_batch}
 use Rattle.cta_model.specs.Tapes.{tape_items, items_after, tape_state, is_broken}
-use Rattle.cta_model.specs.Places.{place_of, last_flushed, fseq_after, flushed_in}
-use Rattle.cta_model.specs.Answers.{answer_of, is_accepted, is_too_heavy, is_known, is_last_batch, reclaim_answer, live_copies_on}
+use Rattle.cta_model.specs.Places.{place_of, last_flushed, fseq_after, flushed_in, live_items_on}
+use Rattle.cta_model.specs.Answers.{answer_of, is_accepted, is_too_heavy, is_known, is_last_batch, reclaim_answer}
 use Rattle.cta_model.specs.Legal.{IsLegal, IsNext}
 use Rattle.cta_laws.specs.Mounts.{are_about_others, IsMountKept, OpenMountStays, TapesAreMountedOnce}
 use Rattle.cta_laws.proofs.Tests.{bool_cases, or_left, or_right, or_cases}
@@ -57,16 +57,16 @@ open_there site (e ∷ h) legal m op =
 pub tape_is_mounted : (site : Site) (h : History) → IsLegal site h → (m : ℕ) → is_open h m ≡ true → is_mounted h (tape_of_mount h m) ≡ true
 tape_is_mounted site h legal m op = (let x : (x : Mount) × (mount_of h m ≡ Some x) = open_there site h legal m op in open_mounted h m x.0 x.1 op)
 
-new_tape : (site : Site) (h : History) (e : Entry) (m : ℕ) → IsNew site h e m → is_mounted h (tape_of_mount (e ∷ h) m) ≡ false
+pub new_tape : (site : Site) (h : History) (e : Entry) (m : ℕ) → IsNew site h e m → is_mounted h (tape_of_mount (e ∷ h) m) ≡ false
 new_tape site h e m new =
     let there : mount_of (e ∷ h) m ≡ Some new.1.0 = ap (mount_of (e ∷ h)) new.0 ∙ mount_newest e h ∙ new.1.1 in
     subst (λ (v : ℕ). is_mounted h v ≡ false) (sym (ap tape_by there)) new.1.2
 
-old_tape : (e : Entry) (h : History) (m : ℕ) → is_open h m ≡ true → tape_of_mount (e ∷ h) m ≡ tape_of_mount h m
+pub old_tape : (e : Entry) (h : History) (m : ℕ) → is_open h m ≡ true → tape_of_mount (e ∷ h) m ≡ tape_of_mount h m
 old_tape e h m op = ap tape_by (mount_older e h m (open_older h m op))
 
 -- a new mount and an old one have two tapes
-not_both : (site : Site) (h : History) (e : Entry) (m n : ℕ) → IsLegal site h → IsNew site h e m → is_open h n ≡ true → tape_of_mount (e ∷ h) m ≡ tape_of_mount (e ∷ h) n → ⊥
+pub not_both : (site : Site) (h : History) (e : Entry) (m n : ℕ) → IsLegal site h → IsNew site h e m → is_open h n ≡ true → tape_of_mount (e ∷ h) m ≡ tape_of_mount (e ∷ h) n → ⊥
 not_both site h e m n legal new old same =
     let free : is_mounted h (tape_of_mount (e ∷ h) m) ≡ false = new_tape site h e m new in
     let taken : is_mounted h (tape_of_mount h n) ≡ true = tape_is_mounted site h legal n old in
@@ -92,7 +92,7 @@ tapes_are_mounted_once site (e ∷ h) legal m n om on same =
 
 -- ---- one entry that is about another
 
-number_filter : (keep : ℕ → Bool) (m : ℕ) (ms : List ℕ) → keep m ≡ true → has_number m ms ≡ true → has_number m (filter keep ms) ≡ true
+pub number_filter : (keep : ℕ → Bool) (m : ℕ) (ms : List ℕ) → keep m ≡ true → has_number m ms ≡ true → has_number m (filter keep ms) ≡ true
 number_filter keep m [] k e = absurd (cc)
 number_filter keep m (n ∷ ms) k e =
     elim (bool_cases (m == n)) [
@@ -102,15 +102,15 @@ number_filter keep m (n ∷ ms) k e =
           elim (keep n) as (λ b. has_number m (if b then n ∷ filter keep ms else filter keep ms) ≡ true) [ true ↦ or_right (m == n) _ rest | false ↦ rest ])
     ]
 
-turned : (m k : ℕ) → (k == m) ≡ false → not (m == k) ≡ true
+pub turned : (m k : ℕ) → (k == m) ≡ false → not (m == k) ≡ true
 turned m k d = elim (eqb_tells m k) [ inl y ↦ (let bad : k == m ≡ true = eq-eqb k m (sym y.1) in absurd (cc)) | inr y ↦ rw y.0 refl ]
 
-other_open : (k : Ask) (a : Answer) (n m : ℕ) (ms : List ℕ) → (asked_mount k == m) ≡ false → has_number m ms ≡ true → has_number m (open_after k a n ms) ≡ true
+pub other_open : (k : Ask) (a : Answer) (n m : ℕ) (ms : List ℕ) → (asked_mount k == m) ≡ false → has_number m ms ≡ true → has_number m (open_after k a n ms) ≡ true
 other_open (ask.Next d) (answer.Mounted u w v) n m ms d' e = or_right (m == n) _ e
 other_open (ask.End u f) a n m ms d' e = number_filter (λ x. not (x == u)) m ms (turned m u d') e
 other_open _ a n m ms d' e = e
 
-other_claims : (k : Ask) (a : Answer) (m : ℕ) (before : List Item) → (asked_mount k == m) ≡ false → claimed_after k a m before ≡ before
+pub other_claims : (k : Ask) (a : Answer) (m : ℕ) (before : List Item) → (asked_mount k == m) ≡ false → claimed_after k a m before ≡ before
 other_claims (ask.Claim k) (answer.Batch items evicted) m before d = rw d refl
 other_claims (ask.Flushed k items) a m before d = rw d refl
 other_claims (ask.Recalled k job) a m before d = rw d refl
@@ -118,7 +118,7 @@ other_claims (ask.Failed k f charged returned) a m before d = rw d refl
 other_claims _ a m before d = refl
 
 -- what another open mount flushes is on another tape
-other_tape : (site : Site) (h : History) → IsLegal site h → (m k : ℕ) → is_open h m ≡ true → is_open h k ≡ true → (k == m) ≡ false → (tape_of_mount h k == tape_of_mount h m) ≡ false
+pub other_tape : (site : Site) (h : History) → IsLegal site h → (m k : ℕ) → is_open h m ≡ true → is_open h k ≡ true → (k == m) ≡ false → (tape_of_mount h k == tape_of_mount h m) ≡ false
 other_tape site h legal m k om ok d =
     elim (bool_cases (tape_of_mount h k == tape_of_mount h m)) [
       | inl hit ↦
@@ -128,7 +128,7 @@ other_tape site h legal m k om ok d =
       | inr miss ↦ miss
     ]
 
-other_items : (site : Site) (h : History) → IsLegal site h → (t : ℕ) (k : Ask) (a : Answer) (m : ℕ) → a ≡ answer_of site h t k → is_accepted a ≡ true → is_open h m ≡ true → (asked_mount k == m) ≡ false → items_after k (tape_of_mount h m) (tape_of_mount h (asked_mount k)) (tape_items h (tape_of_mount h m)) ≡ tape_items h (tape_of_mount h m)
+pub other_items : (site : Site) (h : History) → IsLegal site h → (t : ℕ) (k : Ask) (a : Answer) (m : ℕ) → a ≡ answer_of site h t k → is_accepted a ≡ true → is_open h m ≡ true → (asked_mount k == m) ≡ false → items_after k (tape_of_mount h m) (tape_of_mount h (asked_mount k)) (tape_items h (tape_of_mount h m)) ≡ tape_items h (tape_of_mount h m)
 other_items site h legal t (ask.Flushed u items) a m is y op d =
     let known : (is_known h u (item_jobs items.items) ≡ true) × (is_last_batch (last_batch h u) items.items ≡ true) = flushed_known site h t u items a is y in
     let ou : is_open h u ≡ true = (and_parts (is_open h u) _ known.0).0 in
@@ -136,7 +136,7 @@ other_items site h legal t (ask.Flushed u items) a m is y op d =
 other_items site h legal t (ask.Reclaim who u) a m is y op d =
     elim (bool_cases (u == tape_of_mount h m)) [
       | inl hit ↦
-          (let none : (is_empty (live_copies_on site h u) ≡ true) × (is_mounted h u ≡ false) = reclaim_none (is_too_heavy site h (ask.Reclaim who u) (reclaim_answer site h u)) (nat_le (length site.tapes.items) u) (is_mounted h u) (is_broken (tape_state site h u)) (is_empty (live_copies_on site h u)) a is y in
+          (let none : (is_empty (live_items_on h u) ≡ true) × (is_mounted h u ≡ false) = reclaim_none (is_too_heavy site h (ask.Reclaim who u) (reclaim_answer site h u)) (nat_le (length site.tapes.items) u) (is_mounted h u) (is_broken (tape_state site h u)) (is_empty (live_items_on h u)) a is y in
           let up : is_mounted h (tape_of_mount h m) ≡ true = tape_is_mounted site h legal m op in
           let here : is_mounted h (tape_of_mount h m) ≡ false = subst (λ (x : ℕ). is_mounted h x ≡ false) (eqb-true u _ hit) none.1 in
           absurd (cc))
@@ -145,14 +145,14 @@ other_items site h legal t (ask.Reclaim who u) a m is y op d =
 other_items site h legal t _ a m is y op d = refl
 
 -- an entry about another puts no copy on the mount's tape
-other_puts : (site : Site) (h : History) → IsLegal site h → (t : ℕ) (k : Ask) (a : Answer) (m f c s : ℕ) → a ≡ answer_of site h t k → is_accepted a ≡ true → is_open h m ≡ true → (asked_mount k == m) ≡ false → fseq_after (flushed_in k a) f c None ≡ Some s → (tape_of_mount h (asked_mount k) == tape_of_mount h m) ≡ false
+pub other_puts : (site : Site) (h : History) → IsLegal site h → (t : ℕ) (k : Ask) (a : Answer) (m f c s : ℕ) → a ≡ answer_of site h t k → is_accepted a ≡ true → is_open h m ≡ true → (asked_mount k == m) ≡ false → fseq_after (flushed_in k a) f c None ≡ Some s → (tape_of_mount h (asked_mount k) == tape_of_mount h m) ≡ false
 other_puts site h legal t (ask.Flushed u items) (answer.Told fates) m f c s is y op d e =
     let known : (is_known h u (item_jobs items.items) ≡ true) × (is_last_batch (last_batch h u) items.items ≡ true) = flushed_known site h t u items (answer.Told fates) is y in
     let ou : is_open h u ≡ true = (and_parts (is_open h u) _ known.0).0 in
     other_tape site h legal m u op ou d
 other_puts site h legal t _ a m f c s is y op d e = absurd (cc)
 
-other_place : (site : Site) (h : History) (e : Entry) → IsLegal site (e ∷ h) → (m : ℕ) → is_open h m ≡ true → (asked_mount e.ask == m) ≡ false → (f c : ℕ) (p : Place) → p.tape ≡ tape_of_mount h m → place_of (e ∷ h) f c ≡ Some p → place_of h f c ≡ Some p
+pub other_place : (site : Site) (h : History) (e : Entry) → IsLegal site (e ∷ h) → (m : ℕ) → is_open h m ≡ true → (asked_mount e.ask == m) ≡ false → (f c : ℕ) (p : Place) → p.tape ≡ tape_of_mount h m → place_of (e ∷ h) f c ≡ Some p → place_of h f c ≡ Some p
 other_place site h e legal m op d f c p on is =
     let parts : (is_live (e ∷ h) f ≡ true) × (last_flushed (e ∷ h) f c ≡ Some p) = live_place (e ∷ h) f c p is in
     elim (place_cases c (tape_of_mount h (asked_mount e.ask)) (fseq_after (flushed_in e.ask e.answer) f c None) (last_flushed h f c) p parts.1) [
@@ -169,7 +169,7 @@ other_place site h e legal m op d f c p on is =
 
 -- ---- many entries
 
-not_is : (b : Bool) → not b ≡ true → b ≡ false
+pub not_is : (b : Bool) → not b ≡ true → b ≡ false
 not_is true e = absurd (cc)
 not_is false e = refl
 

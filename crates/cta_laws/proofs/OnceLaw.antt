@@ -30,15 +30,15 @@ birth_in o = option_map (λ (r : Recall). r.birth) o
 abbrev pub IsEnded : Site → History → ℕ → ℕ → Type 0
 IsEnded site h f b = is_number b (birth_in (live_recall site h f)) ≡ false
 
-left_ended : (b birth : ℕ) (ns : List ℕ) → (b == birth) ≡ false → is_number b (birth_in (left_with birth ns)) ≡ false
+pub left_ended : (b birth : ℕ) (ns : List ℕ) → (b == birth) ≡ false → is_number b (birth_in (left_with birth ns)) ≡ false
 left_ended b birth [] d = refl
 left_ended b birth (n ∷ ns) d = d
 
-subscribed_ended : (b : ℕ) (t : Bool) (n : ℕ) (r : Recall) → (b == r.birth) ≡ false → is_number b (birth_in (Some (subscribed t n r))) ≡ false
+pub subscribed_ended : (b : ℕ) (t : Bool) (n : ℕ) (r : Recall) → (b == r.birth) ≡ false → is_number b (birth_in (Some (subscribed t n r))) ≡ false
 subscribed_ended b true n r d = d
 subscribed_ended b false n r d = d
 
-unless_ended : (b : ℕ) (t : Bool) (r : Recall) → (b == r.birth) ≡ false → is_number b (birth_in (lives_unless t r)) ≡ false
+pub unless_ended : (b : ℕ) (t : Bool) (r : Recall) → (b == r.birth) ≡ false → is_number b (birth_in (lives_unless t r)) ≡ false
 unless_ended b true r d = refl
 unless_ended b false r d = d
 
@@ -55,15 +55,15 @@ goes_on_ended site h e f r b d (ask.Delete who path) a = unless_ended b (bytes_e
 goes_on_ended site h e f r b d (ask.TapeState who v s) a = unless_ended b (is_empty (places_of site (e ∷ h) f)) r d
 goes_on_ended site h e f r b d _ a = d
 
-born_ended : (b n : ℕ) (t : Bool) (r : Recall) → r.birth ≡ n → (b == n) ≡ false → is_number b (birth_in (if t then Some r else None)) ≡ false
+pub born_ended : (b n : ℕ) (t : Bool) (r : Recall) → r.birth ≡ n → (b == n) ≡ false → is_number b (birth_in (if t then Some r else None)) ≡ false
 born_ended b n true r is d = rw is d
 born_ended b n false r is d = refl
 
-born_now : (b n : ℕ) (t : Bool) (r : Recall) → r.birth ≡ n → is_number b (birth_in (if t then Some r else None)) ≡ true → b ≡ n
+pub born_now : (b n : ℕ) (t : Bool) (r : Recall) → r.birth ≡ n → is_number b (birth_in (if t then Some r else None)) ≡ true → b ≡ n
 born_now b n true r is y = eqb-true b r.birth y ∙ is
 born_now b n false r is y = absurd (cc)
 
-after_ended : (site : Site) (h : History) (e : Entry) (f b : ℕ) → b ≤ length h → (o : Option Recall) → is_number b (birth_in o) ≡ false → is_number b (birth_in (recall_after site h e f o)) ≡ false
+pub after_ended : (site : Site) (h : History) (e : Entry) (f b : ℕ) → b ≤ length h → (o : Option Recall) → is_number b (birth_in o) ≡ false → is_number b (birth_in (recall_after site h e f o)) ≡ false
 after_ended site h e f b low None d = born_ended b (length h + 1) (bears_recall site h e.ask f) _ refl (not_next b (length h) low)
 after_ended site h e f b low (Some r) d = goes_on_ended site h e f r b d e.ask e.answer
 
@@ -73,7 +73,7 @@ stays_ended site h e f b low d = after_ended site h e f b low (live_recall site 
 
 -- ---- what lives was born before
 
-born_after : (site : Site) (h : History) (e : Entry) (f b : ℕ) (o : Option Recall) → is_number b (birth_in o) ≡ false → is_number b (birth_in (recall_after site h e f o)) ≡ true → b ≤ length h + 1
+pub born_after : (site : Site) (h : History) (e : Entry) (f b : ℕ) (o : Option Recall) → is_number b (birth_in o) ≡ false → is_number b (birth_in (recall_after site h e f o)) ≡ true → b ≤ length h + 1
 born_after site h e f b None d = λ y. (let x : b ≡ length h + 1 = born_now b (length h + 1) (bears_recall site h e.ask f) _ refl y in omega arith)
 born_after site h e f b (Some r) d = λ y. (let z : is_number b (birth_in (recall_goes_on site h e f r e.ask e.answer)) ≡ false = goes_on_ended site h e f r b d e.ask e.answer in absurd (cc))
 
@@ -87,10 +87,10 @@ born_before site (e ∷ h) f b y =
 
 -- ---- an entry that completes it
 
-made_job : ℕ → ℕ → ℕ → Job
+pub made_job : ℕ → ℕ → ℕ → Job
 made_job a b c = record { birth = a; file = b; copy = c }
 
-job_eq : (a b c x y z : ℕ) → a ≡ x → b ≡ y → c ≡ z → made_job a b c ≡ made_job x y z
+pub job_eq : (a b c x y z : ℕ) → a ≡ x → b ≡ y → c ≡ z → made_job a b c ≡ made_job x y z
 job_eq a b c x y z p q r = cc
 
 pub same_job_eq : (i j : Job) → same_job i j ≡ true → i ≡ j
@@ -100,7 +100,7 @@ same_job_eq i j s =
     let q : (i.file == j.file ≡ true) × (i.copy == j.copy ≡ true) = and_parts _ _ p.1 in
     job_eq i.birth i.file i.copy j.birth j.file j.copy (eqb-true _ _ p.0) (eqb-true _ _ q.0) (eqb-true _ _ q.1)
 
-arrived_done : (live t : Bool) → answer.Arrived fate.Done ≡ refuse refusal.Unknown t (answer.Arrived (if live then fate.Done else fate.Stale)) → live ≡ true
+pub arrived_done : (live t : Bool) → answer.Arrived fate.Done ≡ refuse refusal.Unknown t (answer.Arrived (if live then fate.Done else fate.Stale)) → live ≡ true
 arrived_done true t y = refl
 arrived_done false true y = absurd (cc)
 arrived_done false false y = absurd (cc)
@@ -112,21 +112,21 @@ lives site h t b f (ask.Recalled m job) (answer.Arrived fate.Done) y c =
     subst (λ (j : Job). is_live_job site h j ≡ true) same live
 lives site h t b f _ a y c = absurd (cc)
 
-ends : (site : Site) (h : History) (e : Entry) (f : ℕ) (r : Recall) (b : ℕ) (k : Ask) (a : Answer) → b ≡ r.birth → completes k a (recall_job b f) ≡ true → is_number b (birth_in (recall_goes_on site h e f r k a)) ≡ false
+pub ends : (site : Site) (h : History) (e : Entry) (f : ℕ) (r : Recall) (b : ℕ) (k : Ask) (a : Answer) → b ≡ r.birth → completes k a (recall_job b f) ≡ true → is_number b (birth_in (recall_goes_on site h e f r k a)) ≡ false
 ends site h e f r b (ask.Recalled m job) (answer.Arrived fate.Done) same c =
     let hit : same_job job (recall_job r.birth f) ≡ true = subst (λ (n : ℕ). same_job job (recall_job n f) ≡ true) same c in
     rw hit refl
 ends site h e f r b _ a same c = absurd (cc)
 
-after_done : (site : Site) (h : History) (e : Entry) (f b : ℕ) (o : Option Recall) → is_number b (birth_in o) ≡ true → completes e.ask e.answer (recall_job b f) ≡ true → is_number b (birth_in (recall_after site h e f o)) ≡ false
+pub after_done : (site : Site) (h : History) (e : Entry) (f b : ℕ) (o : Option Recall) → is_number b (birth_in o) ≡ true → completes e.ask e.answer (recall_job b f) ≡ true → is_number b (birth_in (recall_after site h e f o)) ≡ false
 after_done site h e f b None y c = absurd (cc)
 after_done site h e f b (Some r) y c = ends site h e f r b e.ask e.answer (eqb-true _ _ y) c
 
 -- a recall is not completed, or it was completed once and lives no more
-Once : Site → History → ℕ → ℕ → Type 0
+pub Once : Site → History → ℕ → ℕ → Type 0
 Once site h b f = (completions h (recall_job b f) ≡ 0) ⊎ ((completions h (recall_job b f) ≡ 1) × (b ≤ length h) × IsEnded site h f b)
 
-once : (site : Site) (h : History) → IsLegal site h → (b f : ℕ) → Once site h b f
+pub once : (site : Site) (h : History) → IsLegal site h → (b f : ℕ) → Once site h b f
 unfolding Once
 once site [] legal b f = inl refl
 once site (e ∷ h) legal b f =

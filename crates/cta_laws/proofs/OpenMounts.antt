@@ -31,7 +31,7 @@ pub up_to_filter : (n : ℕ) (test : ℕ → Bool) (ms : List ℕ) → AllUpTo n
 up_to_filter n test [] all = tt
 up_to_filter n test (m ∷ ms) all = elim (test m) as (λ b. AllUpTo n (if b then m ∷ filter test ms else filter test ms)) [ true ↦ (all.0, up_to_filter n test ms all.1) | false ↦ up_to_filter n test ms all.1 ]
 
-open_up_to : (k : Ask) (a : Answer) (n : ℕ) (ms : List ℕ) → AllUpTo n ms → AllUpTo (n + 1) (open_after k a (n + 1) ms)
+pub open_up_to : (k : Ask) (a : Answer) (n : ℕ) (ms : List ℕ) → AllUpTo n ms → AllUpTo (n + 1) (open_after k a (n + 1) ms)
 open_up_to (ask.Next d) (answer.Mounted m way v) n ms all = (omega arith, up_to_more n (n + 1) ms (omega arith) all)
 open_up_to (ask.End m f) a n ms all = up_to_filter (n + 1) (λ k. not (k == m)) ms (up_to_more n (n + 1) ms (omega arith) all)
 open_up_to _ a n ms all = up_to_more n (n + 1) ms (omega arith) all
@@ -47,7 +47,7 @@ mount_older e h m low = rw (not_next m (length h) low) refl
 pub mount_newest : (e : Entry) (h : History) → mount_of (e ∷ h) (length h + 1) ≡ mount_in e.ask e.answer
 mount_newest e h = rw (eq-eqb (length h + 1) (length h + 1) refl) refl
 
-number_up_to : (n m : ℕ) (ms : List ℕ) → AllUpTo n ms → has_number m ms ≡ true → m ≤ n
+pub number_up_to : (n m : ℕ) (ms : List ℕ) → AllUpTo n ms → has_number m ms ≡ true → m ≤ n
 number_up_to n m [] all e = absurd (cc)
 number_up_to n m (k ∷ ms) all e =
     elim (bool_cases (m == k)) [

@@ -1,11 +1,10 @@
 -- The item that made a live file's place stays among its tape's items.
-use Rattle.std.proofs.Common.{◌≡◌, ℕ, zero, suc, ◌+◌, ◌≤◌, ◌⊎◌, inl, inr, List, [], ◌∷◌, ◌++◌, Bool, true, false, ◌&&◌, ◌||◌, not, refl, sym, ap, subst, arith, length}
-use Rattle.std.specs.Prelude.{Option, Some, None, is_some, option_to_list, if◌then◌else◌, ◌==◌, nat_le, zip, bytes_eq}
+use Rattle.std.proofs.Common.{◌≡◌, ℕ, ◌+◌, ◌≤◌, ◌⊎◌, inl, inr, List, [], ◌∷◌, ◌++◌, Bool, true, false, ◌&&◌, not, refl, sym, ap, subst, arith, length, ◌∙◌}
+use Rattle.std.specs.Prelude.{Option, Some, None, is_some, if◌then◌else◌, ◌==◌, nat_le, zip, filter, bytes_eq}
 use Rattle.std.specs.List.{list_any}
-use Rattle.std.proofs.lemmas.Bool.{and_parts, and_from, eqb-true, eq-eqb, cases_lt}
+use Rattle.std.proofs.lemmas.Bool.{and_parts, and_from, eqb-true, eq-eqb}
 use Rattle.cta_site.specs.declared.site.Site.{Site}
 use Rattle.cta_site.specs.Listed.{Listed}
-use Rattle.cta_site.specs.Lookups.{copies_of}
 use Rattle.cta_model.specs.declared.entries.Entry.{Entry}
 use Rattle.cta_model.specs.declared.asks.Ask.{Ask}
 use Rattle.cta_model.specs.declared.asks.Ask.TheVariants as ask
@@ -15,30 +14,30 @@ use Rattle.cta_model.specs.declared.answers.Refusal.TheVariants as refusal
 use Rattle.cta_model.specs.declared.asks.Item.{Item}
 use Rattle.cta_model.specs.declared.asks.Fate.{Fate}
 use Rattle.cta_model.specs.declared.states.Place.{Place}
-use Rattle.cta_model.specs.History.{History, has_number, is_number, is_empty}
-use Rattle.cta_model.specs.Files.{live_file, live_after, is_live, path_of, copies_of_file}
+use Rattle.cta_model.specs.History.{History, is_number, is_empty}
+use Rattle.cta_model.specs.Files.{live_file, live_after, is_live, path_of}
 use Rattle.cta_model.specs.Mounts.{tape_of_mount, asked_mount, item_jobs, same_job, is_mounted, last_batch}
 use Rattle.cta_model.specs.Tapes.{tape_items, items_after, tape_state, is_broken}
-use Rattle.cta_model.specs.Places.{place_of, place_after, places_up_to, all_places, has_place_on, fseq_after, is_copy_of, is_done, flushed_in, last_flushed}
-use Rattle.cta_model.specs.Answers.{refuse, answer_of, is_accepted, is_too_heavy, is_known, is_last_batch, same_items, same_item, reclaim_answer, live_copies_on, all_copies_on, copies_on, live_files_in}
+use Rattle.cta_model.specs.Places.{place_of, place_after, is_at, fseq_after, is_copy_of, is_done, flushed_in, last_flushed, live_items_on}
+use Rattle.cta_model.specs.Answers.{refuse, answer_of, is_accepted, is_too_heavy, is_known, is_last_batch, same_items, same_item, reclaim_answer}
 use Rattle.cta_model.specs.Legal.{IsLegal}
 use Rattle.cta_laws.specs.Places.{PlacesStay, PlacesOnTape, is_item_of}
-use Rattle.cta_laws.proofs.Tests.{bool_cases, not_false, or_left, or_right, not_next, any_append}
+use Rattle.cta_laws.proofs.Tests.{bool_cases, not_false, or_left, or_right, or_cases, not_next, any_append}
 use Rattle.cta_laws.proofs.Claims.{AllOf, ItemBelow, last_below}
 
 -- ---- a Flushed names the items of the last Claim
 
-told_open : (closed : Bool) (a b : Answer) → a ≡ refuse refusal.Unknown closed b → is_accepted a ≡ true → closed ≡ false
+pub told_open : (closed : Bool) (a b : Answer) → a ≡ refuse refusal.Unknown closed b → is_accepted a ≡ true → closed ≡ false
 told_open true a b e y = absurd (cc)
 told_open false a b e y = refl
 
 pub flushed_known : (site : Site) (h : History) (t m : ℕ) (items : Listed Item) (a : Answer) → a ≡ answer_of site h t (ask.Flushed m items) → is_accepted a ≡ true → (is_known h m (item_jobs items.items) ≡ true) × (is_last_batch (last_batch h m) items.items ≡ true)
 flushed_known site h t m items a e y = and_parts _ _ (not_false _ (told_open (not (is_known h m (item_jobs items.items) && is_last_batch (last_batch h m) items.items)) a _ e y))
 
-same_file : (a b : Item) → same_item a b ≡ true → a.job.file ≡ b.job.file
+pub same_file : (a b : Item) → same_item a b ≡ true → a.job.file ≡ b.job.file
 same_file a b e = eqb-true _ _ (and_parts _ _ (and_parts _ _ (and_parts (same_job a.job b.job) _ e).0).1).0
 
-same_below : (n : ℕ) (xs ys : List Item) → same_items xs ys ≡ true → AllOf (ItemBelow n) ys → AllOf (ItemBelow n) xs
+pub same_below : (n : ℕ) (xs ys : List Item) → same_items xs ys ≡ true → AllOf (ItemBelow n) ys → AllOf (ItemBelow n) xs
 same_below n [] [] e a = tt
 same_below n [] (y ∷ ys) e a = absurd (cc)
 same_below n (x ∷ xs) [] e a = absurd (cc)
@@ -46,13 +45,13 @@ same_below n (x ∷ xs) (y ∷ ys) e a =
     let parts : (same_item x y ≡ true) × (same_items xs ys ≡ true) = and_parts _ _ e in
     (subst (λ (k : ℕ). k ≤ n) (sym (same_file x y parts.0)) a.0, same_below n xs ys parts.1 a.1)
 
-batch_below : (n : ℕ) (items : List Item) (o : Option (List Item)) → is_last_batch o items ≡ true → ((xs : List Item) → o ≡ Some xs → AllOf (ItemBelow n) xs) → AllOf (ItemBelow n) items
+pub batch_below : (n : ℕ) (items : List Item) (o : Option (List Item)) → is_last_batch o items ≡ true → ((xs : List Item) → o ≡ Some xs → AllOf (ItemBelow n) xs) → AllOf (ItemBelow n) items
 batch_below n items None e h = absurd (cc)
 batch_below n items (Some xs) e h = same_below n items xs e (h xs refl)
 
 -- ---- the files of flushed items
 
-put_below : (xs : List Item) (fs : List Fate) (f c n : ℕ) (before : Option ℕ) (s : ℕ) → AllOf (ItemBelow n) xs → (before ≡ Some s → f ≤ n) → fseq_after (zip xs fs) f c before ≡ Some s → f ≤ n
+pub put_below : (xs : List Item) (fs : List Fate) (f c n : ℕ) (before : Option ℕ) (s : ℕ) → AllOf (ItemBelow n) xs → (before ≡ Some s → f ≤ n) → fseq_after (zip xs fs) f c before ≡ Some s → f ≤ n
 put_below [] fs f c n before s a h e = h e
 put_below (x ∷ xs) [] f c n before s a h e = h e
 put_below (x ∷ xs) (y ∷ fs) f c n before s a h e =
@@ -64,17 +63,17 @@ put_below (x ∷ xs) (y ∷ fs) f c n before s a h e =
     e
 
 -- a flushed item of an entry is of an older file
-entry_below : (site : Site) (h : History) → IsLegal site h → (t f c : ℕ) (k : Ask) (a : Answer) (s : ℕ) → a ≡ answer_of site h t k → fseq_after (flushed_in k a) f c None ≡ Some s → f ≤ length h
+pub entry_below : (site : Site) (h : History) → IsLegal site h → (t f c : ℕ) (k : Ask) (a : Answer) (s : ℕ) → a ≡ answer_of site h t k → fseq_after (flushed_in k a) f c None ≡ Some s → f ≤ length h
 entry_below site h legal t f c (ask.Flushed m items) (answer.Told fates) s is e =
     put_below items.items fates.items f c (length h) None s
     (batch_below (length h) items.items (last_batch h m) (flushed_known site h t m items (answer.Told fates) is refl).1 (λ xs x. last_below site h legal m xs x))
     (λ q. absurd (cc)) e
 entry_below site h legal t f c _ a s is e = absurd (cc)
 
-no_place : Place
+pub no_place : Place
 no_place = record { copy = 0; tape = 0; fseq = 0 }
 
-place_in : Option Place → Place
+pub place_in : Option Place → Place
 place_in None = no_place
 place_in (Some p) = p
 
@@ -96,7 +95,7 @@ flushed_below site (e ∷ h) legal f c p is =
 pub path_older : (e : Entry) (h : History) (f : ℕ) → f ≤ length h → path_of (e ∷ h) f ≡ path_of h f
 path_older e h f low = rw (not_next f (length h) low) refl
 
-file_older : (k : Ask) (n f : ℕ) (path : List ℕ) (o : Option ℕ) → (f == n) ≡ false → is_number f (live_after k n path o) ≡ true → is_number f o ≡ true
+pub file_older : (k : Ask) (n f : ℕ) (path : List ℕ) (o : Option ℕ) → (f == n) ≡ false → is_number f (live_after k n path o) ≡ true → is_number f o ≡ true
 file_older (ask.Put who p sum) n f path o d = elim (bytes_eq p path) as (λ b. is_number f (if b then Some n else o) ≡ true → is_number f o ≡ true) [ true ↦ λ e. absurd (cc) | false ↦ λ e. e ]
 file_older (ask.Delete who p) n f path o d = elim (bytes_eq p path) as (λ b. is_number f (if b then None else o) ≡ true → is_number f o ≡ true) [ true ↦ λ e. absurd (cc) | false ↦ λ e. e ]
 file_older _ n f path o d = λ e. e
@@ -106,58 +105,30 @@ live_before e h f low live =
     let there : is_number f (live_file (e ∷ h) (path_of h f)) ≡ true = subst (λ (p : List ℕ). is_number f (live_file (e ∷ h) p) ≡ true) (path_older e h f low) live in
     file_older e.ask (length h + 1) f (path_of h f) (live_file h (path_of h f)) (not_next f (length h) low) there
 
--- ---- a live place is found on its tape
+-- ---- the item of a live place is a live item of its tape
 
-found_append : (v : ℕ) (xs ys : List Place) → (has_place_on v xs ≡ true) ⊎ (has_place_on v ys ≡ true) → has_place_on v (xs ++ ys) ≡ true
-found_append v xs ys e = any_append (λ (p : Place). p.tape == v) xs ys e
-
-copy_found : (h : History) (f c : ℕ) (p : Place) (n : ℕ) → 1 ≤ c → c ≤ n → place_of h f c ≡ Some p → has_place_on p.tape (places_up_to h f n) ≡ true
-copy_found h f c p zero low high e = absurd (omega arith)
-copy_found h f c p (suc n) low high e =
-    elim (cases_lt c (suc n)) [
-      | inl less ↦ found_append p.tape (places_up_to h f n) _ (inl (copy_found h f c p n low (omega arith) e))
-      | inr more ↦
-          (let same : c ≡ suc n = omega arith in
-          let here : place_of h f (suc n) ≡ Some p = subst (λ (k : ℕ). place_of h f k ≡ Some p) same e in
-          found_append p.tape (places_up_to h f n) (option_to_list (place_of h f (suc n))) (inr (rw here (or_left (p.tape == p.tape) false (eq-eqb p.tape p.tape refl)))))
-    ]
-
-copies_found : (v f : ℕ) (ps : List Place) → has_place_on v ps ≡ true → is_empty (copies_on v f ps) ≡ false
-copies_found v f [] = λ e. absurd (cc)
-copies_found v f (p ∷ ps) =
-    elim (p.tape == v) as (λ b. (b || has_place_on v ps) ≡ true → is_empty (if b then (p.fseq, record { birth = 0; file = f; copy = p.copy }) ∷ copies_on v f ps else copies_on v f ps) ≡ false)
-    [ true ↦ λ e. refl | false ↦ λ e. copies_found v f ps e ]
-
-some_append : {A : Type 0} (xs ys : List A) → (is_empty xs ≡ false) ⊎ (is_empty ys ≡ false) → is_empty (xs ++ ys) ≡ false
-some_append [] ys e = elim e [ inl a ↦ absurd (cc) | inr a ↦ a ]
-some_append (x ∷ xs) ys e = refl
-
-files_found : (site : Site) (h : History) (v f : ℕ) (fs : List ℕ) → has_number f fs ≡ true → has_place_on v (all_places site h f) ≡ true → is_empty (all_copies_on site h v fs) ≡ false
-files_found site h v f [] e there = absurd (cc)
-files_found site h v f (g ∷ fs) e there =
-    elim (bool_cases (f == g)) [
-      | inl hit ↦
-          (let same : f ≡ g = eqb-true f g hit in
-          let here : has_place_on v (all_places site h g) ≡ true = subst (λ (k : ℕ). has_place_on v (all_places site h k) ≡ true) same there in
-          some_append (copies_on v g (all_places site h g)) (all_copies_on site h v fs) (inl (copies_found v g (all_places site h g) here)))
-      | inr miss ↦ some_append (copies_on v g (all_places site h g)) (all_copies_on site h v fs) (inr (files_found site h v f fs (rw miss at e) there))
-    ]
-
-live_found : (h older : History) (f : ℕ) → 1 ≤ f → f ≤ length older → is_live h f ≡ true → has_number f (live_files_in h older) ≡ true
-live_found h [] f low high live = absurd (omega arith)
-live_found h (e ∷ older) f low high live =
-    elim (cases_lt f (length older + 1)) [
-      | inl less ↦ any_append (λ m. f == m) (live_files_in h older) _ (inl (live_found h older f low (omega arith) live))
-      | inr more ↦
-          (let same : f ≡ length older + 1 = omega arith in
-          let here : is_live h (length older + 1) ≡ true = subst (λ (k : ℕ). is_live h k ≡ true) same live in
-          any_append (λ m. f == m) (live_files_in h older) (if is_live h (length older + 1) then (length older + 1) ∷ [] else [])
-          (inr (rw here (or_left (f == length older + 1) false (eq-eqb f (length older + 1) same)))))
+pub found_there : (h : History) (f c : ℕ) (p : Place) → place_of h f c ≡ Some p → (items : List Item) → list_any (is_item_of f c p.fseq) items ≡ true → is_empty (filter (λ (i : Item). is_at p.tape i.fseq (place_of h i.job.file i.job.copy)) items) ≡ false
+found_there h f c p is [] e = absurd (cc)
+found_there h f c p is (i ∷ items) e =
+    elim (bool_cases (is_at p.tape i.fseq (place_of h i.job.file i.job.copy))) [
+      | inl hit ↦ rw hit refl
+      | inr miss ↦
+          elim (or_cases (is_item_of f c p.fseq i) _ e) [
+            | inl this ↦
+                (let file : i.job.file ≡ f = eqb-true _ _ (and_parts (i.job.file == f) _ this).0 in
+                let rest = and_parts (i.job.copy == c) _ (and_parts (i.job.file == f) _ this).1 in
+                let copy : i.job.copy ≡ c = eqb-true _ _ rest.0 in
+                let fseq : i.fseq ≡ p.fseq = eqb-true _ _ rest.1 in
+                let there : place_of h i.job.file i.job.copy ≡ Some p = ap (λ (n : ℕ). place_of h n i.job.copy) file ∙ (ap (place_of h f) copy ∙ is) in
+                let here : is_at p.tape i.fseq (place_of h i.job.file i.job.copy) ≡ true = rw there (and_from _ _ (eq-eqb p.tape p.tape refl) (eq-eqb p.fseq i.fseq (sym fseq))) in
+                absurd (cc))
+            | inr more ↦ rw miss (found_there h f c p is items more)
+          ]
     ]
 
 -- ---- numbers of live files
 
-step_within : (k : Ask) (n f : ℕ) (p : List ℕ) (o : Option ℕ) → 1 ≤ n → (is_number f o ≡ true → (1 ≤ f) × (f ≤ n)) → is_number f (live_after k n p o) ≡ true → (1 ≤ f) × (f ≤ n)
+pub step_within : (k : Ask) (n f : ℕ) (p : List ℕ) (o : Option ℕ) → 1 ≤ n → (is_number f o ≡ true → (1 ≤ f) × (f ≤ n)) → is_number f (live_after k n p o) ≡ true → (1 ≤ f) × (f ≤ n)
 step_within (ask.Put who q sum) n f p o low h =
     elim (bytes_eq q p) as (λ b. is_number f (if b then Some n else o) ≡ true → (1 ≤ f) × (f ≤ n))
     [ true ↦ λ e. (let same : f ≡ n = eqb-true f n e in (omega arith, omega arith)) | false ↦ λ e. h e ]
@@ -172,11 +143,11 @@ named_within (e ∷ h) f p is =
 
 -- ---- an item is put on tape, and stays
 
-number_in : Option ℕ → ℕ
+pub number_in : Option ℕ → ℕ
 number_in None = 0
 number_in (Some n) = n
 
-put_member : (xs : List Item) (fs : List Fate) (f c : ℕ) (before : Option ℕ) (s : ℕ) → fseq_after (zip xs fs) f c before ≡ Some s → (list_any (is_item_of f c s) xs ≡ true) ⊎ (before ≡ Some s)
+pub put_member : (xs : List Item) (fs : List Fate) (f c : ℕ) (before : Option ℕ) (s : ℕ) → fseq_after (zip xs fs) f c before ≡ Some s → (list_any (is_item_of f c s) xs ≡ true) ⊎ (before ≡ Some s)
 unfolding number_in
 put_member [] fs f c before s e = inr e
 put_member (x ∷ xs) [] f c before s e = inr e
@@ -194,7 +165,7 @@ put_member (x ∷ xs) (y ∷ fs) f c before s e =
           ]
     ]
 
-new_item : (k : Ask) (a : Answer) (f c s v : ℕ) (before : List Item) → fseq_after (flushed_in k a) f c None ≡ Some s → list_any (is_item_of f c s) (items_after k v v before) ≡ true
+pub new_item : (k : Ask) (a : Answer) (f c s v : ℕ) (before : List Item) → fseq_after (flushed_in k a) f c None ≡ Some s → list_any (is_item_of f c s) (items_after k v v before) ≡ true
 new_item (ask.Flushed m items) (answer.Told fates) f c s v before e =
     rw (eq-eqb v v refl) (any_append (is_item_of f c s) before items.items (inr (elim (put_member items.items fates.items f c None s e) [ inl a ↦ a | inr q ↦ absurd (cc) ])))
 new_item _ a f c s v before e = absurd (cc)
@@ -207,33 +178,30 @@ reclaim_none false false false true empty a e y = absurd (cc)
 reclaim_none false false false false true a e y = (refl, refl)
 reclaim_none false false false false false a e y = absurd (cc)
 
-old_item : (site : Site) (h : History) (t : ℕ) (k : Ask) (a : Answer) (f c s v w : ℕ) → a ≡ answer_of site h t k → is_accepted a ≡ true → is_empty (live_copies_on site h v) ≡ false → list_any (is_item_of f c s) (tape_items h v) ≡ true → list_any (is_item_of f c s) (items_after k v w (tape_items h v)) ≡ true
+pub old_item : (site : Site) (h : History) (t : ℕ) (k : Ask) (a : Answer) (f c s v w : ℕ) → a ≡ answer_of site h t k → is_accepted a ≡ true → is_empty (live_items_on h v) ≡ false → list_any (is_item_of f c s) (tape_items h v) ≡ true → list_any (is_item_of f c s) (items_after k v w (tape_items h v)) ≡ true
 old_item site h t (ask.Flushed m items) a f c s v w is y there e = elim (w == v) as (λ b. list_any (is_item_of f c s) (if b then tape_items h v ++ items.items else tape_items h v) ≡ true) [ true ↦ any_append (is_item_of f c s) (tape_items h v) items.items (inl e) | false ↦ e ]
 old_item site h t (ask.Reclaim who u) a f c s v w is y there e =
     elim (bool_cases (u == v)) [
       | inl hit ↦
-          (let none : (is_empty (live_copies_on site h u) ≡ true) × (is_mounted h u ≡ false) = reclaim_none (is_too_heavy site h (ask.Reclaim who u) (reclaim_answer site h u)) (nat_le (length site.tapes.items) u) (is_mounted h u) (is_broken (tape_state site h u)) (is_empty (live_copies_on site h u)) a is y in
+          (let none : (is_empty (live_items_on h u) ≡ true) × (is_mounted h u ≡ false) = reclaim_none (is_too_heavy site h (ask.Reclaim who u) (reclaim_answer site h u)) (nat_le (length site.tapes.items) u) (is_mounted h u) (is_broken (tape_state site h u)) (is_empty (live_items_on h u)) a is y in
           let same : u ≡ v = eqb-true u v hit in
-          let here : is_empty (live_copies_on site h v) ≡ true = subst (λ (x : ℕ). is_empty (live_copies_on site h x) ≡ true) same none.0 in
+          let here : is_empty (live_items_on h v) ≡ true = subst (λ (x : ℕ). is_empty (live_items_on h x) ≡ true) same none.0 in
           absurd (cc))
       | inr miss ↦ rw miss e
     ]
 old_item site h t _ a f c s v w is y there e = e
 
-stays : (site : Site) (h : History) → IsLegal site h → (f c : ℕ) (p : Place) → 1 ≤ c → c ≤ copies_of_file site h f → is_live h f ≡ true → last_flushed h f c ≡ Some p → list_any (is_item_of f c p.fseq) (tape_items h p.tape) ≡ true
-stays site [] legal f c p low high live is = absurd (cc)
-stays site (e ∷ h) legal f c p low high live is =
+pub stays : (site : Site) (h : History) → IsLegal site h → (f c : ℕ) (p : Place) → is_live h f ≡ true → last_flushed h f c ≡ Some p → list_any (is_item_of f c p.fseq) (tape_items h p.tape) ≡ true
+stays site [] legal f c p live is = absurd (cc)
+stays site (e ∷ h) legal f c p live is =
     elim (place_cases c (tape_of_mount h (asked_mount e.ask)) (fseq_after (flushed_in e.ask e.answer) f c None) (last_flushed h f c) p is) [
       | inl new ↦ rw new.1 (new_item e.ask e.answer f c p.fseq p.tape (tape_items h p.tape) new.0)
       | inr old ↦
           (let older : f ≤ length h = flushed_below site h legal.0 f c p old.1 in
           let was : is_live h f ≡ true = live_before e h f older live in
-          let path : path_of (e ∷ h) f ≡ path_of h f = path_older e h f older in
-          let copies : c ≤ copies_of_file site h f = subst (λ (x : List ℕ). c ≤ copies_of site x) path high in
-          let here : place_of h f c ≡ Some p = rw was old.1 in
-          let some : 1 ≤ f = (named_within h f (path_of h f) was).0 in
-          let there : is_empty (live_copies_on site h p.tape) ≡ false = files_found site h p.tape f (live_files_in h h) (live_found h h f some older was) (copy_found h f c p (copies_of_file site h f) low copies here) in
-          old_item site h e.at e.ask e.answer f c p.fseq p.tape (tape_of_mount h (asked_mount e.ask)) legal.1.answered legal.1.accepted there (stays site h legal.0 f c p low copies was old.1))
+          let before : list_any (is_item_of f c p.fseq) (tape_items h p.tape) ≡ true = stays site h legal.0 f c p was old.1 in
+          let there : is_empty (live_items_on h p.tape) ≡ false = found_there h f c p (rw was old.1) (tape_items h p.tape) before in
+          old_item site h e.at e.ask e.answer f c p.fseq p.tape (tape_of_mount h (asked_mount e.ask)) legal.1.answered legal.1.accepted there before)
     ]
 
 pub live_place : (h : History) (f c : ℕ) (p : Place) → place_of h f c ≡ Some p → (is_live h f ≡ true) × (last_flushed h f c ≡ Some p)
@@ -242,13 +210,13 @@ live_place h f c p =
     [ inl y ↦ λ e. (y, rw y at e) | inr n ↦ λ e. (let bad : None ≡ Some p = rw n at e in absurd (cc)) ]
 
 pub places_on_tape : PlacesOnTape
-places_on_tape site h legal f c p is e =
+places_on_tape site h legal f c p e =
     let parts : (is_live h f ≡ true) × (last_flushed h f c ≡ Some p) = live_place h f c p e in
-    stays site h legal f c p is.0 is.1 parts.0 parts.1
+    stays site h legal f c p parts.0 parts.1
 
 -- ---- a place stays
 
-after_some : (c v : ℕ) (o : Option ℕ) (before : Option Place) → is_some before ≡ true → is_some (place_after c v o before) ≡ true
+pub after_some : (c v : ℕ) (o : Option ℕ) (before : Option Place) → is_some before ≡ true → is_some (place_after c v o before) ≡ true
 after_some c v None before e = e
 after_some c v (Some s) before e = refl
 
@@ -256,7 +224,7 @@ pub flushed_stays : (newer h : History) (f c : ℕ) → is_some (last_flushed h 
 flushed_stays [] h f c e = e
 flushed_stays (x ∷ newer) h f c e = after_some c (tape_of_mount (newer ++ h) (asked_mount x.ask)) (fseq_after (flushed_in x.ask x.answer) f c None) (last_flushed (newer ++ h) f c) (flushed_stays newer h f c e)
 
-was_there : (live : Bool) (o : Option Place) → is_some (if live then o else None) ≡ true → is_some o ≡ true
+pub was_there : (live : Bool) (o : Option Place) → is_some (if live then o else None) ≡ true → is_some o ≡ true
 was_there true o e = e
 was_there false o e = absurd (cc)
 

@@ -1,5 +1,5 @@
 -- The key of a live archive job is a pool of the site.
-use Rattle.std.proofs.Common.{◌≡◌, ◌∙◌, ◌<◌, ◌≤◌, ℕ, zero, suc, List, Option, Some, None, true, length, refl, sym, ap, subst, arith}
+use Rattle.std.proofs.Common.{◌≡◌, ◌<◌, ◌≤◌, ℕ, zero, suc, List, Option, Some, None, length, refl, subst, arith}
 use Rattle.std.specs.Prelude.{option_map}
 use Rattle.cta_site.specs.declared.site.Site.{Site}
 use Rattle.cta_site.specs.Laws.{ClassesAreKnown, CopiesAreRouted}
@@ -7,14 +7,12 @@ use Rattle.cta_site.specs.Lookups.{class_of, copies_of, copies_of_class, pool_of
 use Rattle.cta_site.specs.ValidSite.{IsValidSite}
 use Rattle.cta_model.specs.declared.asks.Job.{Job}
 use Rattle.cta_model.specs.History.{History}
-use Rattle.cta_model.specs.Files.{path_of, copies_of_file}
-use Rattle.cta_model.specs.Jobs.{is_live_job}
-use Rattle.cta_model.specs.Legal.{IsLegal}
-use Rattle.cta_model.specs.Queues.{key_by, key_of, pool_of_job}
+use Rattle.cta_model.specs.Files.{path_of}
+use Rattle.cta_model.specs.Queues.{key_by, pool_of_job}
 use Rattle.cta_laws.specs.Jobs.{ArchiveKeyIsPool}
 use Rattle.cta_laws.proofs.RangeLaw.{job_range}
 
-by_pool : (site : Site) (h : History) (j : Job) (c key : ℕ) → 1 ≤ c → key_by c site h j ≡ Some key → pool_of_job site h j ≡ Some key
+pub by_pool : (site : Site) (h : History) (j : Job) (c key : ℕ) → 1 ≤ c → key_by c site h j ≡ Some key → pool_of_job site h j ≡ Some key
 by_pool site h j zero key from e = absurd (omega arith)
 by_pool site h j (suc c) key from e = e
 

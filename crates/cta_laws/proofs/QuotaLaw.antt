@@ -16,10 +16,11 @@ use Rattle.cta_model.specs.declared.asks.Direction.TheVariants as direction
 use Rattle.cta_model.specs.declared.asks.Job.{Job}
 use Rattle.cta_model.specs.declared.states.Mount.{Mount}
 use Rattle.cta_model.specs.declared.states.Candidate.{Candidate}
+use Rattle.cta_model.specs.declared.states.Sums.{Sums}
 use Rattle.cta_model.specs.History.{History, moment_of, last_moment}
 use Rattle.cta_model.specs.Mounts.{mount_of, mount_in, open_mounts, open_after, is_mount, same_direction, is_down, is_busy, is_mounted}
 use Rattle.cta_model.specs.Tapes.{used_bytes, tape_state, may_be_written, may_be_read}
-use Rattle.cta_model.specs.Queues.{queue_of}
+use Rattle.cta_model.specs.Queues.{queue_of, sums_of}
 use Rattle.cta_model.specs.Choice.{candidate_of, candidate_by, candidates, candidates_by, better_of, first_of, mount_choice, goes_before, has_quota_left, mounts_of_vo, quota_of, vo_of_key, tape_for, may_read_from, may_write_on, some_job_fits, all_tapes, is_warranted, fits_drive}
 use Rattle.cta_model.specs.Answers.{refuse, mounted, answer_of, next_answer, is_too_heavy, is_accepted}
 use Rattle.cta_model.specs.Legal.{IsLegal, IsNext}
@@ -29,28 +30,28 @@ use Rattle.cta_laws.proofs.OpenMounts.{legal_older, AllUpTo, up_to_filter, opens
 
 -- ---- the choice has quota left
 
-AllC : (Candidate → Type 0) → List Candidate → Type 0
+pub AllC : (Candidate → Type 0) → List Candidate → Type 0
 AllC P [] = Unit {0}
 AllC P (c ∷ cs) = P c × AllC P cs
 
-all_append : (P : Candidate → Type 0) (xs ys : List Candidate) → AllC P xs → AllC P ys → AllC P (xs ++ ys)
+pub all_append : (P : Candidate → Type 0) (xs ys : List Candidate) → AllC P xs → AllC P ys → AllC P (xs ++ ys)
 unfolding AllC
 all_append P [] ys a b = b
 all_append P (x ∷ xs) ys a b = (a.0, all_append P xs ys a.1 b)
 
-better_all : (P : Candidate → Type 0) (x : Candidate) (o : Option Candidate) → P x → ((c : Candidate) → o ≡ Some c → P c) → (c : Candidate) → better_of x o ≡ Some c → P c
+pub better_all : (P : Candidate → Type 0) (x : Candidate) (o : Option Candidate) → P x → ((c : Candidate) → o ≡ Some c → P c) → (c : Candidate) → better_of x o ≡ Some c → P c
 better_all P x None p h c = λ e. (let same : x ≡ c = cc in subst P same p)
 better_all P x (Some b) p h c =
     elim (goes_before b x) as (λ t. (if t then Some b else Some x) ≡ Some c → P c)
     [ true ↦ λ e. h c e | false ↦ λ e. (let same : x ≡ c = cc in subst P same p) ]
 
-first_all : (P : Candidate → Type 0) (cs : List Candidate) → AllC P cs → (c : Candidate) → first_of cs ≡ Some c → P c
+pub first_all : (P : Candidate → Type 0) (cs : List Candidate) → AllC P cs → (c : Candidate) → first_of cs ≡ Some c → P c
 unfolding AllC
 first_all P [] all c e = absurd (cc)
 first_all P (x ∷ xs) all c e = better_all P x (first_of xs) all.0 (λ k q. first_all P xs all.1 k q) c e
 
 -- the VO of the candidate's tape has quota left
-HasQuota : Site → History → Candidate → Type 0
+pub HasQuota : Site → History → Candidate → Type 0
 HasQuota site h c = has_quota_left site h c.direction (vo_of_pool site (pool_of_tape site c.tape)) ≡ true
 
 pub find_passes : (test : ℕ → Bool) (ns : List ℕ) (v : ℕ) → find test ns ≡ Some v → test v ≡ true
@@ -65,10 +66,10 @@ pub or_found : (a b : Option ℕ) (v : ℕ) → option_or a b ≡ Some v → (a 
 or_found None b v e = inr e
 or_found (Some x) b v e = inl e
 
-written_pool : (site : Site) (h : History) (d key : ℕ) (q : List Job) (v : ℕ) → may_write_on site h d key q v ≡ true → pool_of_tape site v ≡ key
+pub written_pool : (site : Site) (h : History) (d key : ℕ) (q : List Job) (v : ℕ) → may_write_on site h d key q v ≡ true → pool_of_tape site v ≡ key
 written_pool site h d key q v w = eqb-true (pool_of_tape site v) key (and_parts _ _ w).0
 
-tape_vo : (site : Site) (h : History) (t d : ℕ) (way : Direction) (key : ℕ) (q : List Job) (v : ℕ) → tape_for site h t d way key q ≡ Some v → vo_of_key site way key ≡ vo_of_pool site (pool_of_tape site v)
+pub tape_vo : (site : Site) (h : History) (t d : ℕ) (way : Direction) (key : ℕ) (q : List Job) (v : ℕ) → tape_for site h t d way key q ≡ Some v → vo_of_key site way key ≡ vo_of_pool site (pool_of_tape site v)
 tape_vo site h t d direction.Archive key q v = λ e.
     let in_pool : pool_of_tape site v ≡ key =
     elim (or_found (find (λ u. nat_lt 0 (used_bytes h u) && may_write_on site h d key q u) (all_tapes site)) (find (may_write_on site h d key q) (all_tapes site)) v e) [
@@ -80,13 +81,13 @@ tape_vo site h t d direction.Retrieve key q v =
     elim (may_read_from site h t d q key) as (λ b. (if b then Some key else None) ≡ Some v → vo_of_pool site (pool_of_tape site key) ≡ vo_of_pool site (pool_of_tape site v))
     [ true ↦ λ e. (let same : key ≡ v = cc in ap (λ (u : ℕ). vo_of_pool site (pool_of_tape site u)) same) | false ↦ λ e. absurd (cc) ]
 
-by_quota : (site : Site) (h : History) (way : Direction) (key : ℕ) (q : List Job) (o : Option ℕ) → has_quota_left site h way (vo_of_key site way key) ≡ true → ((v : ℕ) → o ≡ Some v → vo_of_key site way key ≡ vo_of_pool site (pool_of_tape site v)) → AllC (HasQuota site h) (candidate_by site h way key q o)
+pub by_quota : (site : Site) (h : History) (way : Direction) (key : ℕ) (sums : Option Sums) (o : Option ℕ) → has_quota_left site h way (vo_of_key site way key) ≡ true → ((v : ℕ) → o ≡ Some v → vo_of_key site way key ≡ vo_of_pool site (pool_of_tape site v)) → AllC (HasQuota site h) (candidate_by way key sums o)
 unfolding AllC HasQuota
-by_quota site h way key [] o room tapes = tt
-by_quota site h way key (j ∷ q) None room tapes = tt
-by_quota site h way key (j ∷ q) (Some v) room tapes = (subst (λ (u : ℕ). has_quota_left site h way u ≡ true) (tapes v refl) room, tt)
+by_quota site h way key None o room tapes = tt
+by_quota site h way key (Some s) None room tapes = tt
+by_quota site h way key (Some s) (Some v) room tapes = (subst (λ (u : ℕ). has_quota_left site h way u ≡ true) (tapes v refl) room, tt)
 
-if_fits : (P : Candidate → Type 0) (warranted up free room tape : Bool) (xs : List Candidate) → (room ≡ true → AllC P xs) → AllC P (if warranted && (up && (free && (room && tape))) then xs else [])
+pub if_fits : (P : Candidate → Type 0) (warranted up free room tape : Bool) (xs : List Candidate) → (room ≡ true → AllC P xs) → AllC P (if warranted && (up && (free && (room && tape))) then xs else [])
 unfolding AllC
 if_fits P true true true true true xs h = h refl
 if_fits P true true true true false xs h = tt
@@ -95,59 +96,59 @@ if_fits P true true false room tape xs h = tt
 if_fits P true false free room tape xs h = tt
 if_fits P false up free room tape xs h = tt
 
-candidate_quota : (site : Site) (h : History) (t d : ℕ) (way : Direction) (key : ℕ) → AllC (HasQuota site h) (candidate_of site h t d way key)
+pub candidate_quota : (site : Site) (h : History) (t d : ℕ) (way : Direction) (key : ℕ) → AllC (HasQuota site h) (candidate_of site h t d way key)
 candidate_quota site h t d way key =
-    if_fits (HasQuota site h) (is_warranted site h t way key) (not (is_down h d)) (not (is_busy h d)) (has_quota_left site h way (vo_of_key site way key)) (is_some (tape_for site h t d way key (queue_of site h way key))) (candidate_by site h way key (queue_of site h way key) (tape_for site h t d way key (queue_of site h way key)))
-    (λ room. by_quota site h way key (queue_of site h way key) (tape_for site h t d way key (queue_of site h way key)) room (tape_vo site h t d way key (queue_of site h way key)))
+    if_fits (HasQuota site h) (is_warranted site h t way key) (not (is_down h d)) (not (is_busy h d)) (has_quota_left site h way (vo_of_key site way key)) (is_some (tape_for site h t d way key (queue_of site h way key))) (candidate_by way key (sums_of site h way (queue_of site h way key)) (tape_for site h t d way key (queue_of site h way key)))
+    (λ room. by_quota site h way key (sums_of site h way (queue_of site h way key)) (tape_for site h t d way key (queue_of site h way key)) room (tape_vo site h t d way key (queue_of site h way key)))
 
-candidates_quota : (site : Site) (h : History) (t d : ℕ) (way : Direction) (ks : List ℕ) → AllC (HasQuota site h) (candidates_by site h t d way ks)
+pub candidates_quota : (site : Site) (h : History) (t d : ℕ) (way : Direction) (ks : List ℕ) → AllC (HasQuota site h) (candidates_by site h t d way ks)
 unfolding AllC
 candidates_quota site h t d way [] = tt
 candidates_quota site h t d way (k ∷ ks) = all_append (HasQuota site h) (candidate_of site h t d way k) _ (candidate_quota site h t d way k) (candidates_quota site h t d way ks)
 
-choice_quota : (site : Site) (h : History) (t d : ℕ) (c : Candidate) → mount_choice site h t d ≡ Some c → has_quota_left site h c.direction (vo_of_pool site (pool_of_tape site c.tape)) ≡ true
+pub choice_quota : (site : Site) (h : History) (t d : ℕ) (c : Candidate) → mount_choice site h t d ≡ Some c → has_quota_left site h c.direction (vo_of_pool site (pool_of_tape site c.tape)) ≡ true
 unfolding HasQuota
 choice_quota site h t d c e =
     first_all (HasQuota site h) (candidates site h t d) (all_append (HasQuota site h) _ _ (candidates_quota site h t d direction.Archive _) (candidates_quota site h t d direction.Retrieve _)) c e
 
 -- ---- what holds of each tape that a drive may mount holds of the choice's
 
-by_tape : (P : Direction → ℕ → Type 0) (site : Site) (h : History) (way : Direction) (key : ℕ) (q : List Job) (o : Option ℕ) → ((v : ℕ) → o ≡ Some v → P way v) → AllC (λ c. P c.direction c.tape) (candidate_by site h way key q o)
+pub by_tape : (P : Direction → ℕ → Type 0) (way : Direction) (key : ℕ) (sums : Option Sums) (o : Option ℕ) → ((v : ℕ) → o ≡ Some v → P way v) → AllC (λ c. P c.direction c.tape) (candidate_by way key sums o)
 unfolding AllC
-by_tape P site h way key [] o tapes = tt
-by_tape P site h way key (j ∷ q) None tapes = tt
-by_tape P site h way key (j ∷ q) (Some v) tapes = (tapes v refl, tt)
+by_tape P way key None o tapes = tt
+by_tape P way key (Some s) None tapes = tt
+by_tape P way key (Some s) (Some v) tapes = (tapes v refl, tt)
 
-if_all : (P : Candidate → Type 0) (b : Bool) (xs : List Candidate) → AllC P xs → AllC P (if b then xs else [])
+pub if_all : (P : Candidate → Type 0) (b : Bool) (xs : List Candidate) → AllC P xs → AllC P (if b then xs else [])
 unfolding AllC
 if_all P true xs all = all
 if_all P false xs all = tt
 
-tapes_all : (P : Direction → ℕ → Type 0) (site : Site) (h : History) (t d : ℕ) → ((way : Direction) (key : ℕ) (q : List Job) (v : ℕ) → tape_for site h t d way key q ≡ Some v → P way v) → (way : Direction) (ks : List ℕ) → AllC (λ c. P c.direction c.tape) (candidates_by site h t d way ks)
+pub tapes_all : (P : Direction → ℕ → Type 0) (site : Site) (h : History) (t d : ℕ) → ((way : Direction) (key : ℕ) (q : List Job) (v : ℕ) → tape_for site h t d way key q ≡ Some v → P way v) → (way : Direction) (ks : List ℕ) → AllC (λ c. P c.direction c.tape) (candidates_by site h t d way ks)
 unfolding AllC
 tapes_all P site h t d tapes way [] = tt
 tapes_all P site h t d tapes way (k ∷ ks) =
     all_append (λ c. P c.direction c.tape) (candidate_of site h t d way k) _
-    (if_all (λ c. P c.direction c.tape) (is_warranted site h t way k && fits_drive site h t d way k) (candidate_by site h way k (queue_of site h way k) (tape_for site h t d way k (queue_of site h way k))) (by_tape P site h way k (queue_of site h way k) (tape_for site h t d way k (queue_of site h way k)) (tapes way k (queue_of site h way k))))
+    (if_all (λ c. P c.direction c.tape) (is_warranted site h t way k && fits_drive site h t d way k) (candidate_by way k (sums_of site h way (queue_of site h way k)) (tape_for site h t d way k (queue_of site h way k))) (by_tape P way k (sums_of site h way (queue_of site h way k)) (tape_for site h t d way k (queue_of site h way k)) (tapes way k (queue_of site h way k))))
     (tapes_all P site h t d tapes way ks)
 
 pub choice_all : (P : Direction → ℕ → Type 0) (site : Site) (h : History) (t d : ℕ) → ((way : Direction) (key : ℕ) (q : List Job) (v : ℕ) → tape_for site h t d way key q ≡ Some v → P way v) → (c : Candidate) → mount_choice site h t d ≡ Some c → P c.direction c.tape
 choice_all P site h t d tapes c e = first_all (λ c. P c.direction c.tape) (candidates site h t d) (all_append (λ c. P c.direction c.tape) _ _ (tapes_all P site h t d tapes direction.Archive _) (tapes_all P site h t d tapes direction.Retrieve _)) c e
 
-not_true : (b : Bool) → not b ≡ true → b ≡ false
+pub not_true : (b : Bool) → not b ≡ true → b ≡ false
 not_true true e = absurd (cc)
 not_true false e = refl
 
-write_free : (site : Site) (h : History) (d key : ℕ) (q : List Job) (v : ℕ) → may_write_on site h d key q v ≡ true → is_mounted h v ≡ false
+pub write_free : (site : Site) (h : History) (d key : ℕ) (q : List Job) (v : ℕ) → may_write_on site h d key q v ≡ true → is_mounted h v ≡ false
 write_free site h d key q v w =
     let a : may_be_written (tape_state site h v) && (is_in_reach site d v && (not (is_mounted h v) && some_job_fits h q (capacity_of site v - used_bytes h v))) ≡ true = (and_parts (pool_of_tape site v == key) _ w).1 in
     not_true (is_mounted h v) (and_parts (not (is_mounted h v)) _ (and_parts (is_in_reach site d v) _ (and_parts (may_be_written (tape_state site h v)) _ a).1).1).0
 
-read_free : (site : Site) (h : History) (t d : ℕ) (q : List Job) (v : ℕ) → may_read_from site h t d q v ≡ true → is_mounted h v ≡ false
+pub read_free : (site : Site) (h : History) (t d : ℕ) (q : List Job) (v : ℕ) → may_read_from site h t d q v ≡ true → is_mounted h v ≡ false
 read_free site h t d q v w = not_true (is_mounted h v) (and_parts (not (is_mounted h v)) _ (and_parts (is_in_reach site d v) _ (and_parts (may_be_read (tape_state site h v)) _ w).1).1).0
 
 -- a tape that a drive may mount is not mounted
-tape_free : (site : Site) (h : History) (t d : ℕ) (way : Direction) (key : ℕ) (q : List Job) (v : ℕ) → tape_for site h t d way key q ≡ Some v → is_mounted h v ≡ false
+pub tape_free : (site : Site) (h : History) (t d : ℕ) (way : Direction) (key : ℕ) (q : List Job) (v : ℕ) → tape_for site h t d way key q ≡ Some v → is_mounted h v ≡ false
 tape_free site h t d direction.Archive key q v = λ e.
     elim (or_found (find (λ u. nat_lt 0 (used_bytes h u) && may_write_on site h d key q u) (all_tapes site)) (find (may_write_on site h d key q) (all_tapes site)) v e) [
       | inl a ↦ write_free site h d key q v (and_parts _ _ (find_passes (λ u. nat_lt 0 (used_bytes h u) && may_write_on site h d key q u) (all_tapes site) v a)).1
@@ -164,7 +165,7 @@ tape_free site h t d direction.Retrieve key q v = λ e.
 abbrev pub Chosen : Option Candidate → ℕ → Answer → Type 0
 Chosen o n a = (c : Candidate) × (o ≡ Some c) × (a ≡ answer.Mounted n c.direction c.tape)
 
-chosen_by : (heavy none down busy : Bool) (n : ℕ) (o : Option Candidate) (a : Answer) → a ≡ refuse refusal.HistoryFull heavy (refuse refusal.NoDrive none (if down then answer.DriveDown else if busy then answer.DriveBusy else mounted n o)) → is_accepted a ≡ true → Chosen o n a
+pub chosen_by : (heavy none down busy : Bool) (n : ℕ) (o : Option Candidate) (a : Answer) → a ≡ refuse refusal.HistoryFull heavy (refuse refusal.NoDrive none (if down then answer.DriveDown else if busy then answer.DriveBusy else mounted n o)) → is_accepted a ≡ true → Chosen o n a
 chosen_by true none down busy n o a e y = absurd (cc)
 chosen_by false true down busy n o a e y = absurd (cc)
 chosen_by false false true busy n o a e y = absurd (cc)
@@ -172,10 +173,10 @@ chosen_by false false false true n o a e y = absurd (cc)
 chosen_by false false false false n None a e y = absurd (cc)
 chosen_by false false false false n (Some c) a e y = (c, refl, e)
 
-next_chosen : (site : Site) (h : History) (t d : ℕ) (a : Answer) → a ≡ answer_of site h t (ask.Next d) → is_accepted a ≡ true → Chosen (mount_choice site h (moment_of h t) d) (length h + 1) a
+pub next_chosen : (site : Site) (h : History) (t d : ℕ) (a : Answer) → a ≡ answer_of site h t (ask.Next d) → is_accepted a ≡ true → Chosen (mount_choice site h (moment_of h t) d) (length h + 1) a
 next_chosen site h t d a e y = chosen_by (is_too_heavy site h (ask.Next d) (next_answer site h (moment_of h t) d)) (nat_le (length site.drives.items) d) (is_down h d) (is_busy h d) (length h + 1) (mount_choice site h (moment_of h t) d) a e y
 
-moment_after : (h : History) (t : ℕ) → last_moment h ≤ t → moment_of h t ≡ t
+pub moment_after : (h : History) (t : ℕ) → last_moment h ≤ t → moment_of h t ≡ t
 moment_after h t low = omega arith
 
 pub choice_at : (site : Site) (h : History) (e : Entry) (d : ℕ) → IsNext site h e → e.ask ≡ ask.Next d → Chosen (mount_choice site h e.at d) (length h + 1) e.answer
@@ -195,18 +196,18 @@ mounted_tape site h e d m w v next ek ea =
 
 -- ---- the open mounts after one more entry
 
-is_of_vo : Site → Direction → ℕ → Mount → Bool
+pub is_of_vo : Site → Direction → ℕ → Mount → Bool
 is_of_vo site way vo m = same_direction m.direction way && vo_of_pool site (pool_of_tape site m.tape) == vo
 
-passing : (Mount → Bool) → History → List ℕ → List ℕ
+pub passing : (Mount → Bool) → History → List ℕ → List ℕ
 passing test h ms = filter (λ m. is_mount test (mount_of h m)) ms
 
-passing_older : (test : Mount → Bool) (e : Entry) (h : History) (ms : List ℕ) → AllUpTo (length h) ms → passing test (e ∷ h) ms ≡ passing test h ms
+pub passing_older : (test : Mount → Bool) (e : Entry) (h : History) (ms : List ℕ) → AllUpTo (length h) ms → passing test (e ∷ h) ms ≡ passing test h ms
 unfolding passing
 passing_older test e h [] all = refl
 passing_older test e h (m ∷ ms) all = rw (mount_older e h m all.0, passing_older test e h ms all.1) refl
 
-passing_filter : (test : Mount → Bool) (h : History) (keep : ℕ → Bool) (ms : List ℕ) → length (passing test h (filter keep ms)) ≤ length (passing test h ms)
+pub passing_filter : (test : Mount → Bool) (h : History) (keep : ℕ → Bool) (ms : List ℕ) → length (passing test h (filter keep ms)) ≤ length (passing test h ms)
 unfolding passing
 passing_filter test h keep [] = omega arith
 passing_filter test h keep (m ∷ ms) =
@@ -226,7 +227,7 @@ same_way direction.Archive direction.Retrieve s = absurd (cc)
 same_way direction.Retrieve direction.Archive s = absurd (cc)
 
 -- the newest mount is within the quota
-newest_within : (site : Site) (h : History) (way : Direction) (vo n : ℕ) (x : Mount) (ms : List ℕ) → length ms ≡ mounts_of_vo site h way vo → has_quota_left site h x.direction (vo_of_pool site (pool_of_tape site x.tape)) ≡ true → length ms ≤ quota_of site way vo → length (if is_of_vo site way vo x then n ∷ ms else ms) ≤ quota_of site way vo
+pub newest_within : (site : Site) (h : History) (way : Direction) (vo n : ℕ) (x : Mount) (ms : List ℕ) → length ms ≡ mounts_of_vo site h way vo → has_quota_left site h x.direction (vo_of_pool site (pool_of_tape site x.tape)) ≡ true → length ms ≤ quota_of site way vo → length (if is_of_vo site way vo x then n ∷ ms else ms) ≤ quota_of site way vo
 unfolding is_of_vo
 newest_within site h way vo n x ms count room low =
     elim (bool_cases (is_of_vo site way vo x)) [
@@ -240,7 +241,7 @@ newest_within site h way vo n x ms count room low =
       | inr miss ↦ rw miss low
     ]
 
-quota_step : (site : Site) (h : History) (e : Entry) (way : Direction) (vo : ℕ) (k : Ask) (a : Answer) → e.ask ≡ k → e.answer ≡ a → IsNext site h e → length (passing (is_of_vo site way vo) h (open_mounts h)) ≤ quota_of site way vo → length (passing (is_of_vo site way vo) (e ∷ h) (open_after k a (length h + 1) (open_mounts h))) ≤ quota_of site way vo
+pub quota_step : (site : Site) (h : History) (e : Entry) (way : Direction) (vo : ℕ) (k : Ask) (a : Answer) → e.ask ≡ k → e.answer ≡ a → IsNext site h e → length (passing (is_of_vo site way vo) h (open_mounts h)) ≤ quota_of site way vo → length (passing (is_of_vo site way vo) (e ∷ h) (open_after k a (length h + 1) (open_mounts h))) ≤ quota_of site way vo
 unfolding passing is_of_vo
 quota_step site h e way vo (ask.Next d) (answer.Mounted m w v) ek ea next low =
     let newest : mount_of (e ∷ h) (length h + 1) ≡ Some (record { drive = d; direction = w; tape = v }) = mount_newest e h ∙ ap (λ (k : Ask). mount_in k e.answer) ek ∙ ap (λ (a : Answer). mount_in (ask.Next d) a) ea in
@@ -257,7 +258,7 @@ quota_step site h e way vo (ask.End m f) a ek ea next low =
     (omega (arith, passing_filter (is_of_vo site way vo) h (λ k. not (k == m)) (open_mounts h)))
 quota_step site h e way vo _ a ek ea next low = rw (passing_older (is_of_vo site way vo) e h (open_mounts h) (opens_up_to h)) low
 
-within_quota : (site : Site) (h : History) → IsLegal site h → (way : Direction) (vo : ℕ) → length (passing (is_of_vo site way vo) h (open_mounts h)) ≤ quota_of site way vo
+pub within_quota : (site : Site) (h : History) → IsLegal site h → (way : Direction) (vo : ℕ) → length (passing (is_of_vo site way vo) h (open_mounts h)) ≤ quota_of site way vo
 unfolding passing
 within_quota site [] legal way vo = omega arith
 within_quota site (e ∷ h) legal way vo = quota_step site h e way vo e.ask e.answer refl refl legal.1 (within_quota site h legal.0 way vo)

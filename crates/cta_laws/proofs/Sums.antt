@@ -59,7 +59,7 @@ total_less g test [] = omega arith
 total_less g test (x ∷ xs) = elim (bool_cases (test x)) [ inl hit ↦ rw hit (omega (arith, total_less g test xs)) | inr miss ↦ rw miss (omega (arith, total_less g test xs)) ]
 
 -- numbers of a list, none twice
-pub IsDistinct : List ℕ → Type 0
+abbrev pub IsDistinct : List ℕ → Type 0
 IsDistinct [] = Unit {0}
 IsDistinct (m ∷ ms) = (has_number m ms ≡ false) × IsDistinct ms
 
@@ -68,7 +68,7 @@ unfolding total
 total_le g k n [] all h = omega arith
 total_le g k n (m ∷ ms) all h = omega (arith, h m all.0, total_le g k n ms all.1 h)
 
-total_other : (g k : ℕ → ℕ) (n i : ℕ) (ms : List ℕ) → AllUpTo n ms → has_number i ms ≡ false → ((m : ℕ) → m ≤ n → (i == m) ≡ false → g m ≤ k m) → total g ms ≤ total k ms
+pub total_other : (g k : ℕ → ℕ) (n i : ℕ) (ms : List ℕ) → AllUpTo n ms → has_number i ms ≡ false → ((m : ℕ) → m ≤ n → (i == m) ≡ false → g m ≤ k m) → total g ms ≤ total k ms
 unfolding total
 total_other g k n i [] all none h = omega arith
 total_other g k n i (m ∷ ms) all none h =
@@ -79,7 +79,7 @@ total_other g k n i (m ∷ ms) all none h =
 
 -- where one number of the list differs
 pub total_one : (g k : ℕ → ℕ) (n i c d : ℕ) (ms : List ℕ) → AllUpTo n ms → IsDistinct ms → has_number i ms ≡ true → ((m : ℕ) → m ≤ n → (i == m) ≡ false → g m ≤ k m) → g i + d ≤ k i + c → total g ms + d ≤ total k ms + c
-unfolding total IsDistinct
+unfolding total
 total_one g k n i c d [] all dis there h at = absurd (cc)
 total_one g k n i c d (m ∷ ms) all dis there h at =
     elim (bool_cases (i == m)) [
@@ -91,13 +91,12 @@ total_one g k n i c d (m ∷ ms) all dis there h at =
       | inr miss ↦ omega (arith, h m all.0 miss, total_one g k n i c d ms all.1 dis.1 (rw miss at there) h at)
     ]
 
-number_low : (n m : ℕ) (ms : List ℕ) → AllUpTo n ms → n < m → has_number m ms ≡ false
+pub number_low : (n m : ℕ) (ms : List ℕ) → AllUpTo n ms → n < m → has_number m ms ≡ false
 number_low n m [] all high = refl
 number_low n m (k ∷ ms) all high =
     elim (eqb_tells m k) [ inl x ↦ (let bad : m ≡ k = x.1 in let low : k ≤ n = all.0 in absurd (omega arith)) | inr x ↦ rw x.0 (number_low n m ms all.1 high) ]
 
-distinct_filter : (test : ℕ → Bool) (ms : List ℕ) → IsDistinct ms → IsDistinct (filter test ms)
-unfolding IsDistinct
+pub distinct_filter : (test : ℕ → Bool) (ms : List ℕ) → IsDistinct ms → IsDistinct (filter test ms)
 distinct_filter test [] dis = tt
 distinct_filter test (m ∷ ms) dis =
     elim (bool_cases (test m))
@@ -106,14 +105,12 @@ distinct_filter test (m ∷ ms) dis =
     not_in : has_number m (filter test ms) ≡ false
     not_in = elim (bool_cases (has_number m (filter test ms))) [ inl hit ↦ (let bad : has_number m ms ≡ true = any_filter test m ms hit in let good : has_number m ms ≡ false = dis.0 in absurd (cc)) | inr miss ↦ miss ]
 
-after_distinct : (k : Ask) (a : Answer) (n : ℕ) (ms : List ℕ) → has_number n ms ≡ false → IsDistinct ms → IsDistinct (open_after k a n ms)
-unfolding IsDistinct
+pub after_distinct : (k : Ask) (a : Answer) (n : ℕ) (ms : List ℕ) → has_number n ms ≡ false → IsDistinct ms → IsDistinct (open_after k a n ms)
 after_distinct (ask.Next d) (answer.Mounted m way v) n ms new dis = (new, dis)
 after_distinct (ask.End m f) a n ms new dis = distinct_filter (λ k. not (k == m)) ms dis
 after_distinct _ a n ms new dis = dis
 
 pub open_distinct : (h : History) → IsDistinct (open_mounts h)
-unfolding IsDistinct
 open_distinct [] = tt
 open_distinct (e ∷ h) = after_distinct e.ask e.answer (length h + 1) (open_mounts h) (number_low (length h) (length h + 1) (open_mounts h) (opens_up_to h) (omega arith)) (open_distinct h)
 
@@ -129,49 +126,49 @@ size_is items = total_is (λ (i : Item). i.sum.len) items
 abbrev pub IsOfFile : History → Item → Type 0
 IsOfFile h i = (i.sum.len ≡ size_of h i.job.file) × (i.job.file ≤ length h)
 
-entry_older : (e : Entry) (h : History) (f : ℕ) → f ≤ length h → entry_of (e ∷ h) f ≡ entry_of h f
+pub entry_older : (e : Entry) (h : History) (f : ℕ) → f ≤ length h → entry_of (e ∷ h) f ≡ entry_of h f
 entry_older e h f low = rw (not_next f (length h) low) refl
 
 pub size_older : (e : Entry) (h : History) (f : ℕ) → f ≤ length h → size_of (e ∷ h) f ≡ size_of h f
 size_older e h f low = ap (λ (o : Option Entry). (entry_sum o).len) (entry_older e h f low)
 
-of_older : (e : Entry) (h : History) (items : List Item) → AllOf (IsOfFile h) items → AllOf (IsOfFile (e ∷ h)) items
+pub of_older : (e : Entry) (h : History) (items : List Item) → AllOf (IsOfFile h) items → AllOf (IsOfFile (e ∷ h)) items
 of_older e h items all = all_mono (IsOfFile h) (IsOfFile (e ∷ h)) items (λ i p. step i p) all
   where
     step : (i : Item) → IsOfFile h i → IsOfFile (e ∷ h) i
     step i p = (let low : i.job.file ≤ length h = p.1 in (p.0 ∙ sym (size_older e h i.job.file low), omega arith))
 
-both : {A : Type 0} (P Q : A → Type 0) (xs : List A) → AllOf P xs → AllOf Q xs → AllOf (λ x. P x × Q x) xs
+pub both : {A : Type 0} (P Q : A → Type 0) (xs : List A) → AllOf P xs → AllOf Q xs → AllOf (λ x. P x × Q x) xs
 both P Q [] a b = tt
 both P Q (x ∷ xs) a b = ((a.0, b.0), both P Q xs a.1 b.1)
 
-abbrev HasLength : History → Item → Type 0
+abbrev pub HasLength : History → Item → Type 0
 HasLength h i = i.sum.len ≡ size_of h i.job.file
 
-written_lengths : (h : History) (s : ℕ) (js : List Job) → AllOf (HasLength h) (written_items h s js)
+pub written_lengths : (h : History) (s : ℕ) (js : List Job) → AllOf (HasLength h) (written_items h s js)
 written_lengths h s [] = tt
 written_lengths h s (j ∷ js) = (refl, written_lengths h (s + 1) js)
 
-read_lengths : (site : Site) (h : History) (v : ℕ) (js : List Job) → AllOf (HasLength h) (read_items site h v js)
+pub read_lengths : (site : Site) (h : History) (v : ℕ) (js : List Job) → AllOf (HasLength h) (read_items site h v js)
 read_lengths site h v [] = tt
 read_lengths site h v (j ∷ js) = insert_all (HasLength h) (record { job = j; fseq = fseq_on site h v j.file; sum = sum_of h j.file }) (read_items site h v js) refl (read_lengths site h v js)
 
-batch_lengths : (site : Site) (h : History) (t : ℕ) (way : Direction) (v : ℕ) → AllOf (HasLength h) (batch_by site h t way v)
+pub batch_lengths : (site : Site) (h : History) (t : ℕ) (way : Direction) (v : ℕ) → AllOf (HasLength h) (batch_by site h t way v)
 batch_lengths site h t direction.Archive v = written_lengths h (next_fseq h v) (taken_of h site.limits.batch_files (capacity_of site v - used_bytes h v) (queue_of site h direction.Archive (pool_of_tape site v)))
 batch_lengths site h t direction.Retrieve v = read_lengths site h v (taken_of h site.limits.batch_files (free_space site h + evictable_size site h t) (queue_of site h direction.Retrieve v))
 
-claim_of_file : (site : Site) (h : History) (t m : ℕ) (items : Listed Item) (evicted : Listed ℕ) → answer.Batch items evicted ≡ answer_of site h t (ask.Claim m) → AllOf (IsOfFile h) items.items
+pub claim_of_file : (site : Site) (h : History) (t m : ℕ) (items : Listed Item) (evicted : Listed ℕ) → answer.Batch items evicted ≡ answer_of site h t (ask.Claim m) → AllOf (IsOfFile h) items.items
 claim_of_file site h t m items evicted e =
     let is : IsBatch site h (moment_of h t) (mount_of h m) items.items = claim_is_batch site h t m items evicted e in
     both (HasLength h) (ItemBelow (length h)) items.items
     (subst (λ (xs : List Item). AllOf (HasLength h) xs) (sym is.2) (batch_lengths site h (moment_of h t) is.0.direction is.0.tape))
     (claim_all (Below (length h)) site h t m items evicted e (queue_below site h))
 
-if_of : (h : History) (b : Bool) (js : List Job) (xs : List Item) → AllOf (IsOfFile h) xs → AllOf (IsOfFile h) (if b then without_jobs js xs else xs)
+pub if_of : (h : History) (b : Bool) (js : List Job) (xs : List Item) → AllOf (IsOfFile h) xs → AllOf (IsOfFile h) (if b then without_jobs js xs else xs)
 if_of h true js xs all = all_filter (IsOfFile h) (λ (i : Item). not (has_job i.job js)) xs all
 if_of h false js xs all = all
 
-claimed_step : (site : Site) (h : History) (t : ℕ) (k : Ask) (a : Answer) (m : ℕ) (before : List Item) → a ≡ answer_of site h t k → AllOf (IsOfFile h) before → AllOf (IsOfFile h) (claimed_after k a m before)
+pub claimed_step : (site : Site) (h : History) (t : ℕ) (k : Ask) (a : Answer) (m : ℕ) (before : List Item) → a ≡ answer_of site h t k → AllOf (IsOfFile h) before → AllOf (IsOfFile h) (claimed_after k a m before)
 claimed_step site h t (ask.Claim k) (answer.Batch items evicted) m before is all =
     elim (bool_cases (k == m))
     [ inl hit ↦ rw hit (all_append (IsOfFile h) before items.items all (claim_of_file site h t k items evicted is)) | inr miss ↦ rw miss all ]
@@ -184,7 +181,7 @@ pub claimed_of_file : (site : Site) (h : History) → IsLegal site h → (m : �
 claimed_of_file site [] legal m = tt
 claimed_of_file site (e ∷ h) legal m = of_older e h (claimed_items (e ∷ h) m) (claimed_step site h e.at e.ask e.answer m (claimed_items h m) legal.1.answered (claimed_of_file site h legal.0 m))
 
-last_step : (site : Site) (h : History) (t m : ℕ) (k : Ask) (a : Answer) (o : Option (List Item)) (items : List Item) → a ≡ answer_of site h t k → ((xs : List Item) → o ≡ Some xs → AllOf (IsOfFile h) xs) → batch_or (batch_in k a m) o ≡ Some items → AllOf (IsOfFile h) items
+pub last_step : (site : Site) (h : History) (t m : ℕ) (k : Ask) (a : Answer) (o : Option (List Item)) (items : List Item) → a ≡ answer_of site h t k → ((xs : List Item) → o ≡ Some xs → AllOf (IsOfFile h) xs) → batch_or (batch_in k a m) o ≡ Some items → AllOf (IsOfFile h) items
 last_step site h t m (ask.Claim k) (answer.Batch xs evicted) o items is older =
     elim (k == m) as (λ b. batch_or (if b then Some xs.items else None) o ≡ Some items → AllOf (IsOfFile h) items)
     [ true ↦ λ e. (let same : xs.items ≡ items = cc in subst (λ (ys : List Item). AllOf (IsOfFile h) ys) same (claim_of_file site h t k xs evicted is)) | false ↦ λ e. older items e ]
@@ -194,7 +191,7 @@ pub last_of_file : (site : Site) (h : History) → IsLegal site h → (m : ℕ) 
 last_of_file site [] legal m items e = absurd (cc)
 last_of_file site (e ∷ h) legal m items is = of_older e h items (last_step site h e.at m e.ask e.answer (last_batch h m) items legal.1.answered (λ xs q. last_of_file site h legal.0 m xs q) is)
 
-same_of : (h : History) (xs ys : List Item) → same_items xs ys ≡ true → AllOf (IsOfFile h) ys → AllOf (IsOfFile h) xs
+pub same_of : (h : History) (xs ys : List Item) → same_items xs ys ≡ true → AllOf (IsOfFile h) ys → AllOf (IsOfFile h) xs
 same_of h [] [] e a = tt
 same_of h [] (y ∷ ys) e a = absurd (cc)
 same_of h (x ∷ xs) [] e a = absurd (cc)
@@ -214,7 +211,7 @@ batch_of_file h items (Some xs) e all = same_of h items xs e (all xs refl)
 abbrev pub file_size : History → Job → ℕ
 file_size h j = size_of h j.file
 
-without_one : (h : History) (j : Job) (items : List Item) → AllOf (IsOfFile h) items → has_job j (item_jobs items) ≡ true → total size_in (without_jobs (j ∷ []) items) + file_size h j ≤ total size_in items
+pub without_one : (h : History) (j : Job) (items : List Item) → AllOf (IsOfFile h) items → has_job j (item_jobs items) ≡ true → total size_in (without_jobs (j ∷ []) items) + file_size h j ≤ total size_in items
 unfolding total
 without_one h j [] all there = absurd (cc)
 without_one h j (i ∷ items) all there =
@@ -229,7 +226,7 @@ without_one h j (i ∷ items) all there =
           elim (bool_cases (has_job i.job (j ∷ []))) [ inl out ↦ rw out (omega arith) | inr stays ↦ rw stays (omega arith) ])
     ]
 
-without_twice : (j : Job) (js : List Job) (items : List Item) → without_jobs (j ∷ js) items ≡ without_jobs (j ∷ []) (without_jobs js items)
+pub without_twice : (j : Job) (js : List Job) (items : List Item) → without_jobs (j ∷ js) items ≡ without_jobs (j ∷ []) (without_jobs js items)
 without_twice j js [] = refl
 without_twice j js (i ∷ items) =
     elim (bool_cases (has_job i.job js)) [
@@ -237,7 +234,7 @@ without_twice j js (i ∷ items) =
       | inr stays ↦ elim (bool_cases (same_job i.job j)) [ inl hit ↦ rw (stays, hit) (without_twice j js items) | inr miss ↦ rw (stays, miss) (ap (λ (xs : List Item). i ∷ xs) (without_twice j js items)) ]
     ]
 
-still_there : (j : Job) (js : List Job) (items : List Item) → has_job j js ≡ false → has_job j (item_jobs items) ≡ true → has_job j (item_jobs (without_jobs js items)) ≡ true
+pub still_there : (j : Job) (js : List Job) (items : List Item) → has_job j js ≡ false → has_job j (item_jobs items) ≡ true → has_job j (item_jobs (without_jobs js items)) ≡ true
 still_there j js [] none there = absurd (cc)
 still_there j js (i ∷ items) none there =
     elim (bool_cases (same_job j i.job)) [
@@ -247,7 +244,7 @@ still_there j js (i ∷ items) none there =
           elim (bool_cases (has_job i.job js)) [ inl out ↦ rw out rest | inr stays ↦ rw stays (or_right (same_job j i.job) _ rest) ])
     ]
 
-or_none : (a b : Bool) → (a || b) ≡ false → (a ≡ false) × (b ≡ false)
+pub or_none : (a b : Bool) → (a || b) ≡ false → (a ≡ false) × (b ≡ false)
 or_none true b e = absurd (cc)
 or_none false b e = (refl, e)
 

@@ -1,15 +1,21 @@
 -- Laws of jobs.
-use Rattle.std.specs.Prelude.{ℕ, ◌+◌, ◌≡◌, ◌<◌, ◌≤◌, length, List, [], ◌∷◌, ◌++◌, Some, IsSome, Bool, true, false, if◌then◌else◌, ◌⊎◌}
+use Rattle.std.specs.Prelude.{ℕ, suc, ◌+◌, ◌≡◌, ◌<◌, ◌≤◌, length, List, [], ◌∷◌, ◌++◌, Some, None, is_some, IsSome, true, false, if◌then◌else◌, ◌⊎◌}
 use Rattle.cta_site.specs.declared.site.Site.{Site}
 use Rattle.cta_site.specs.ValidSite.{IsValidSite}
 use Rattle.cta_model.specs.declared.entries.Entry.{Entry}
 use Rattle.cta_model.specs.declared.asks.Job.{Job}
 use Rattle.cta_model.specs.History.{History}
-use Rattle.cta_model.specs.Mounts.{is_open, same_job, has_job, item_jobs, claimed_items}
+use Rattle.cta_model.specs.Mounts.{mount_of, is_open, claimer_of, same_job, has_job, claim_names, claims}
 use Rattle.cta_model.specs.declared.asks.Direction.{Direction}
-use Rattle.cta_model.specs.Jobs.{is_live_job, job_end}
+use Rattle.cta_model.specs.declared.asks.Who.{Who}
+use Rattle.cta_model.specs.declared.asks.Ask.TheVariants as ask
+use Rattle.cta_model.specs.declared.states.Mount.{Mount}
+use Rattle.cta_model.specs.Files.{is_live}
+use Rattle.cta_model.specs.Buffer.{is_resident}
+use Rattle.cta_model.specs.Recalls.{live_recall}
+use Rattle.cta_laws.specs.Claims.{claimer_after}
+use Rattle.cta_model.specs.Jobs.{archive_birth, bears_archive, is_live_job, job_end}
 use Rattle.cta_model.specs.Queues.{queue_of, direction_of, key_of}
-use Rattle.cta_model.specs.Stages.{claim_names}
 use Rattle.cta_model.specs.Legal.{IsLegal}
 
 -- in a legal history a job that has ended is live no more
@@ -20,10 +26,6 @@ EndsForGood = (site : Site) (newer h : History) → IsLegal site (newer ++ h) �
 abbrev pub NoClaimAfterEnd : Type 0
 NoClaimAfterEnd =
     (site : Site) (newer h : History) (e : Entry) → IsLegal site (e ∷ newer ++ h) → (j : Job) → IsSome (job_end site h j) → claim_names e.ask e.answer j ≡ false
-
--- whether a mount claims a job
-abbrev pub claims : History → ℕ → Job → Bool
-claims h m j = has_job j (item_jobs (claimed_items h m))
 
 -- in a legal history at most one open mount claims a job
 abbrev pub ClaimedOnce : Type 0
@@ -65,3 +67,33 @@ abbrev pub ArchiveKeyIsPool : Type 0
 ArchiveKeyIsPool =
     (site : Site) (h : History) → IsValidSite site → IsLegal site h → (j : Job) (key : ℕ) → 1 ≤ j.copy → is_live_job site h j ≡ true → key_of site h j ≡ Some key
     → key < length site.pools.items
+
+-- ---- claims
+
+-- a claimed job goes the way of its mount
+abbrev pub ClaimsGoTheirWay : Type 0
+ClaimsGoTheirWay = (site : Site) (h : History) → IsLegal site h → (m : ℕ) (x : Mount) (j : Job) → mount_of h m ≡ Some x → claims h m j ≡ true → direction_of j ≡ x.direction
+
+-- an entry moves the claimer of a job as its ask says
+abbrev pub ClaimerMoves : Type 0
+ClaimerMoves = (site : Site) (h : History) (e : Entry) → IsLegal site (e ∷ h) → (j : Job) → claimer_of (e ∷ h) j ≡ claimer_after e.ask e.answer j (claimer_of h j)
+
+-- ---- jobs and their files
+
+-- the file of a live archive job is resident
+abbrev pub ArchiveIsResident : Type 0
+ArchiveIsResident = (site : Site) (h : History) → IsLegal site h → (f c : ℕ) → is_some (archive_birth site h f (suc c)) ≡ true → is_resident h f ≡ true
+
+-- the file of a live recall is not resident
+abbrev pub RecallIsAway : Type 0
+RecallIsAway = (site : Site) (h : History) → IsLegal site h → (f : ℕ) → is_some (live_recall site h f) ≡ true → is_resident h f ≡ false
+
+-- the file of a live job is live
+abbrev pub JobFileIsLive : Type 0
+JobFileIsLive = (site : Site) (h : History) → IsLegal site h → (j : Job) → is_live_job site h j ≡ true → is_live h j.file ≡ true
+
+-- where an entry that is no Repack bears an archive job of a copy, the copy had no live one
+abbrev pub NoBirthMeetsJob : Type 0
+NoBirthMeetsJob =
+    (site : Site) (h : History) (e : Entry) → IsLegal site (e ∷ h) → ((who : Who) (v : ℕ) → e.ask ≡ ask.Repack who v → ⊥)
+    → (f c : ℕ) → bears_archive site h e.ask e.answer f (suc c) ≡ true → archive_birth site h f (suc c) ≡ None

@@ -6,3 +6,5 @@ pub mod Lengths
 pub mod Jobs
 pub mod Space
 pub mod Stages
+pub mod Claims
+pub mod Changes

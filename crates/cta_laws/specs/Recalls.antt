@@ -12,7 +12,7 @@ use Rattle.cta_model.specs.declared.asks.Job.{Job}
 use Rattle.cta_model.specs.History.{History}
 use Rattle.cta_model.specs.Mounts.{same_job}
 use Rattle.cta_model.specs.Files.{is_live}
-use Rattle.cta_model.specs.Buffer.{is_resident, lists_evicted}
+use Rattle.cta_model.specs.Buffer.{is_resident, evicts}
 use Rattle.cta_model.specs.Recalls.{recall_job}
 use Rattle.cta_model.specs.Jobs.{job_end}
 use Rattle.cta_model.specs.Legal.{IsLegal}
@@ -43,10 +43,10 @@ RecalledIsResident =
     (site : Site) (h : History) (e : Entry) → IsLegal site (e ∷ h) → (birth f : ℕ) → completes e.ask e.answer (recall_job birth f) ≡ true
     → is_resident (e ∷ h) f ≡ true
 
--- none of the entries lists the file as evicted
+-- none of the entries evicts the file
 abbrev pub is_kept : ℕ → History → Bool
-is_kept f newer = list_all (λ (e : Entry). not (lists_evicted e.answer f)) newer
+is_kept f newer = list_all (λ (e : Entry). not (evicts e.ask e.answer f)) newer
 
--- a resident file is resident as long as it is live and no answer lists it as evicted
+-- a resident file is resident as long as it is live and no entry evicts it
 abbrev pub StaysResident : Type 0
 StaysResident = (newer h : History) (f : ℕ) → is_resident h f ≡ true → is_live (newer ++ h) f ≡ true → is_kept f newer ≡ true → is_resident (newer ++ h) f ≡ true

@@ -1,5 +1,5 @@
 // Laws of jobs.
-ghost use Rattle.cta_laws.specs.Jobs.{ArchiveKeyIsPool, ClaimedOnce, EndsForGood, IsQueuedOrClaimed, NoClaimAfterEnd, RecallKeyIsTape};
+ghost use Rattle.cta_laws.specs.Jobs.{ArchiveIsResident, ArchiveKeyIsPool, ClaimedOnce, ClaimerMoves, ClaimsGoTheirWay, EndsForGood, IsQueuedOrClaimed, JobFileIsLive, NoBirthMeetsJob, NoClaimAfterEnd, RecallIsAway, RecallKeyIsTape};
 
 use cta_site::numbers_are_known;
 
@@ -35,3 +35,33 @@ pub fn archive_key_is_pool()
 {
     numbers_are_known();
 }
+
+/// A claimed job goes the way of its mount. This project's own.
+pub fn claims_go_their_way()
+    ensures { ClaimsGoTheirWay }
+{}
+
+/// An entry moves the claimer of a job as its ask says. This project's own.
+pub fn claimer_moves()
+    ensures { ClaimerMoves }
+{}
+
+/// The file of a live archive job is resident. This project's own.
+pub fn archive_is_resident()
+    ensures { ArchiveIsResident }
+{}
+
+/// The file of a live recall is not resident. This project's own.
+pub fn recall_is_away()
+    ensures { RecallIsAway }
+{}
+
+/// The file of a live job is live. This project's own.
+pub fn job_file_is_live()
+    ensures { JobFileIsLive }
+{}
+
+/// Where an entry that is no Repack bears an archive job of a copy, the copy had no live one. This project's own.
+pub fn no_birth_meets_job()
+    ensures { NoBirthMeetsJob }
+{}

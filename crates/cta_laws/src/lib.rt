@@ -13,8 +13,9 @@ mod space;
 mod stages;
 
 pub use jobs::{
-    archive_key_is_pool, claimed_once, ends_for_good, is_queued_or_claimed, no_claim_after_end,
-    recall_key_is_tape,
+    archive_is_resident, archive_key_is_pool, claimed_once, claimer_moves, claims_go_their_way,
+    ends_for_good, is_queued_or_claimed, job_file_is_live, no_birth_meets_job, no_claim_after_end,
+    recall_is_away, recall_key_is_tape,
 };
 pub use lengths::{moments_never_fall, stays_short};
 pub use localities::{no_file_is_lost, tape_is_flushed, told_tape_is_flushed};

@@ -1,5 +1,5 @@
 -- The sequential archive: what each ask is answered.
-use Rattle.std.specs.Prelude.{ℕ, zero, suc, ◌+◌, length, List, [], ◌∷◌, ◌++◌, Option, Some, None, is_none, is_some, Bool, true, false, if◌then◌else◌, ◌==◌, ◌&&◌, ◌||◌, not, map, nat_le, nat_lt, bytes_eq}
+use Rattle.std.specs.Prelude.{ℕ, ◌+◌, length, List, [], ◌∷◌, ◌++◌, Option, Some, None, is_none, is_some, Bool, true, false, if◌then◌else◌, ◌==◌, ◌&&◌, ◌||◌, not, map, filter, nat_le, nat_lt, bytes_eq}
 use Rattle.std.specs.List.{list_any, list_all}
 use Rattle.cta_site.specs.declared.site.Site.{Site}
 use Rattle.cta_site.specs.Listed.{rows}
@@ -16,17 +16,17 @@ use Rattle.cta_model.specs.declared.asks.Direction.{Direction}
 use Rattle.cta_model.specs.declared.asks.Direction.TheVariants as direction
 use Rattle.cta_model.specs.declared.asks.Job.{Job}
 use Rattle.cta_model.specs.declared.asks.Item.{Item}
-use Rattle.cta_model.specs.declared.asks.Wanted.{Wanted}
+use Rattle.cta_model.specs.declared.states.RequestFile.{RequestFile}
 use Rattle.cta_model.specs.declared.states.Mount.{Mount}
-use Rattle.cta_model.specs.declared.states.Place.{Place}
 use Rattle.cta_model.specs.declared.states.Candidate.{Candidate}
 use Rattle.cta_model.specs.History.{History, next_number, moment_of, weight_of, weight_of_entry, has_text, is_empty}
-use Rattle.cta_model.specs.Files.{live_file, is_live, copies_of_file}
-use Rattle.cta_model.specs.Mounts.{mount_of, is_open, is_mounted, is_busy, is_down, claimed_items, last_batch, item_jobs, has_job, same_job}
+use Rattle.cta_model.specs.Files.{live_file, copy_numbers}
+use Rattle.cta_model.specs.Mounts.{mount_of, is_open, is_mounted, is_busy, is_down, claimed_items, claims, last_batch, item_jobs, has_job, same_job, job_of}
 use Rattle.cta_model.specs.Tapes.{tape_state, is_broken, may_be_repacked, size_of_items}
-use Rattle.cta_model.specs.Places.{all_places, was_flushed}
-use Rattle.cta_model.specs.Jobs.{is_live_job, live_birth, job_of}
-use Rattle.cta_model.specs.Stages.{request_of}
+use Rattle.cta_model.specs.Places.{was_flushed, live_items_on}
+use Rattle.cta_model.specs.Jobs.{is_live_job, archive_birth}
+use Rattle.cta_model.specs.RepackItems.{repack_items}
+use Rattle.cta_model.specs.Stages.{StageRequest, request_of}
 use Rattle.cta_model.specs.Repacks.{is_repack_live}
 use Rattle.cta_model.specs.Space.{free_space, evictable_size, evicted_for}
 use Rattle.cta_model.specs.Choice.{mount_choice}
@@ -56,13 +56,13 @@ delete_answer h path = refuse refusal.NoFile (is_none (live_file h path)) answer
 -- ---- stage requests
 
 -- a Cancel or Release takes paths of its request alone
-abbrev pub request_answer : Option (List Wanted) → List (List ℕ) → Answer
+abbrev pub request_answer : Option StageRequest → List (List ℕ) → Answer
 request_answer None paths = answer.Refused refusal.NoRequest
-request_answer (Some wanted) paths = refuse refusal.ForeignPath (not (list_all (λ p. has_text p (map (λ (w : Wanted). w.path) wanted)) paths)) answer.Done
+request_answer (Some r) paths = refuse refusal.ForeignPath (not (list_all (λ p. has_text p (map (λ (s : RequestFile). s.path) r.files)) paths)) answer.Done
 
 -- a DropStage is refused where its request was never made, or was dropped
-abbrev pub drop_answer : History → ℕ → Answer
-drop_answer h id = refuse refusal.NoRequest (is_none (request_of h id)) answer.Done
+abbrev pub drop_answer : Site → History → ℕ → Answer
+drop_answer site h id = refuse refusal.NoRequest (is_none (request_of site h id)) answer.Done
 
 -- ---- drive sessions
 
@@ -96,7 +96,7 @@ claim_answer site h t m = refuse refusal.Unknown (not (is_open h m)) (claim_by s
 
 -- whether a mount claims each of these jobs
 abbrev pub claims_all : History → ℕ → List Job → Bool
-claims_all h m jobs = list_all (λ j. has_job j (item_jobs (claimed_items h m))) jobs
+claims_all h m jobs = list_all (claims h m) jobs
 
 -- whether a job is named twice
 abbrev pub names_twice : List Job → Bool
@@ -158,46 +158,9 @@ on_free_tape site h v a =
     (refuse refusal.TapeMounted (is_mounted h v)
     (refuse refusal.TapeBroken (is_broken (tape_state site h v)) a))
 
--- the live files, in order
-abbrev pub live_files_in : History → History → List ℕ
-live_files_in h [] = []
-live_files_in h (e ∷ older) = live_files_in h older ++ (if is_live h (next_number older) then next_number older ∷ [] else [])
-
--- the live files of the whole history, in the order of their Puts
-abbrev pub live_files : History → List ℕ
-live_files h = live_files_in h h
-
--- a copy that has a place on a tape: its fSeq, and the copy as a job with birth 0
-abbrev pub copies_on : ℕ → ℕ → List Place → List (ℕ × Job)
-copies_on v f [] = []
-copies_on v f (p ∷ ps) = if p.tape == v then (p.fseq, job_of 0 f p.copy) ∷ copies_on v f ps else copies_on v f ps
-
--- the copies of these files that have a place on a tape, file by file
-abbrev pub all_copies_on : Site → History → ℕ → List ℕ → List (ℕ × Job)
-all_copies_on site h v [] = []
-all_copies_on site h v (f ∷ files) = copies_on v f (all_places site h f) ++ all_copies_on site h v files
-
--- the copies of live files that have a place on a tape, whatever its state
-abbrev pub live_copies_on : Site → History → ℕ → List (ℕ × Job)
-live_copies_on site h v = all_copies_on site h v (live_files h)
-
--- copies by fSeq with one more among them, before the first that has a higher fSeq
-abbrev pub insert_copy : ℕ × Job → List (ℕ × Job) → List (ℕ × Job)
-insert_copy x [] = x ∷ []
-insert_copy x (y ∷ ys) = if nat_lt x.0 y.0 then x ∷ y ∷ ys else y ∷ insert_copy x ys
-
--- the same copies by fSeq
-abbrev pub sort_copies : List (ℕ × Job) → List (ℕ × Job)
-sort_copies [] = []
-sort_copies (x ∷ xs) = insert_copy x (sort_copies xs)
-
--- the items of a repack: the copies of live files on its tape, by fSeq
-abbrev pub repack_items : Site → History → ℕ → List Job
-repack_items site h v = map (λ (x : ℕ × Job). x.1) (sort_copies (live_copies_on site h v))
-
 -- a tape is reclaimed where it is neither mounted nor BROKEN, and no live file has a place on it
 abbrev pub reclaim_answer : Site → History → ℕ → Answer
-reclaim_answer site h v = on_free_tape site h v (refuse refusal.LiveFiles (not (is_empty (live_copies_on site h v))) answer.Done)
+reclaim_answer site h v = on_free_tape site h v (refuse refusal.LiveFiles (not (is_empty (live_items_on h v))) answer.Done)
 
 -- a REPACKING tape of the site is repacked where no repack of it is live, and the answer names the items
 abbrev pub repack_answer : Site → History → ℕ → Answer
@@ -205,23 +168,22 @@ repack_answer site h v =
     refuse refusal.NoTape (nat_le (length site.tapes.items) v)
     (refuse refusal.NotRepacking (not (may_be_repacked (tape_state site h v)))
     (refuse refusal.RepackLive (is_repack_live site h v)
-    (answer.Repacking (next_number h) (rows (repack_items site h v)))))
+    (answer.Repacking (next_number h) (rows (repack_items h v)))))
 
 -- ---- failed copies
 
 -- a copy has failed where it was never flushed and has no live archive job
 abbrev pub is_failed : Site → History → ℕ → ℕ → Bool
-is_failed site h f c = not (was_flushed h f c) && is_none (live_birth site h f c)
+is_failed site h f c = not (was_flushed h f c) && is_none (archive_birth site h f c)
 
--- the jobs that a Retry bears for a file: one for each of its failed copies from 1 to n
-abbrev pub retried_copies : Site → History → ℕ → ℕ → List Job
-retried_copies site h f zero = []
-retried_copies site h f (suc c) = retried_copies site h f c ++ (if is_failed site h f (suc c) then job_of (next_number h) f (suc c) ∷ [] else [])
+-- the failed copies of a file, by copy
+abbrev pub failed_numbers : Site → History → ℕ → List ℕ
+failed_numbers site h f = filter (is_failed site h f) (copy_numbers site h f)
 
--- the jobs that a Retry bears for what a path names, none where it names no file
+-- the jobs that a Retry bears for what a path names: one for each failed copy of the file, none where it names no file
 abbrev pub retried_file : Site → History → Option ℕ → List Job
 retried_file site h None = []
-retried_file site h (Some f) = retried_copies site h f (copies_of_file site h f)
+retried_file site h (Some f) = map (job_of (next_number h) f) (failed_numbers site h f)
 
 -- the jobs that a Retry bears, in order of first naming
 abbrev pub retried_jobs : Site → History → List (List ℕ) → List (List ℕ) → List Job
@@ -239,9 +201,9 @@ abbrev pub light_answer : Site → History → ℕ → Ask → Answer
 light_answer site h t (ask.Put who path sum) = put_answer site h t path sum.len
 light_answer site h t (ask.Delete who path) = delete_answer h path
 light_answer site h t (ask.Stage who files) = answer.Staged (next_number h)
-light_answer site h t (ask.Cancel who id paths) = request_answer (request_of h id) paths.items
-light_answer site h t (ask.DropStage who id) = drop_answer h id
-light_answer site h t (ask.Release who id paths) = request_answer (request_of h id) paths.items
+light_answer site h t (ask.Cancel who id paths) = request_answer (request_of site h id) paths.items
+light_answer site h t (ask.DropStage who id) = drop_answer site h id
+light_answer site h t (ask.Release who id paths) = request_answer (request_of site h id) paths.items
 light_answer site h t (ask.Next d) = next_answer site h t d
 light_answer site h t (ask.Claim m) = claim_answer site h t m
 light_answer site h t (ask.Flushed m items) = flushed_answer site h m items.items

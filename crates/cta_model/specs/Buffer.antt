@@ -1,5 +1,5 @@
 -- Which files are in the buffer, and since which entry.
-use Rattle.std.specs.Prelude.{ℕ, [], ◌∷◌, Option, Some, None, is_some, Bool, true, false, if◌then◌else◌, ◌==◌}
+use Rattle.std.specs.Prelude.{ℕ, List, [], ◌∷◌, Option, Some, None, is_some, Bool, true, false, if◌then◌else◌, ◌==◌}
 use Rattle.cta_model.specs.declared.asks.Ask.{Ask}
 use Rattle.cta_model.specs.declared.asks.Ask.TheVariants as ask
 use Rattle.cta_model.specs.declared.answers.Answer.{Answer}
@@ -14,11 +14,15 @@ brings_in (ask.Put who path sum) a n f = n == f
 brings_in (ask.Recalled m job) (answer.Arrived fate.Done) n f = job.file == f
 brings_in _ _ n f = false
 
--- whether the answer lists the file as evicted
-abbrev pub lists_evicted : Answer → ℕ → Bool
-lists_evicted (answer.Stored evicted) f = has_number f evicted.items
-lists_evicted (answer.Batch items evicted) f = has_number f evicted.items
-lists_evicted _ f = false
+-- the files that an entry evicts: those that the answer to its Put or its Claim lists
+abbrev pub evicted_in : Ask → Answer → List ℕ
+evicted_in (ask.Put who path sum) (answer.Stored evicted) = evicted.items
+evicted_in (ask.Claim m) (answer.Batch items evicted) = evicted.items
+evicted_in _ _ = []
+
+-- whether an entry evicts the file
+abbrev pub evicts : Ask → Answer → ℕ → Bool
+evicts k a f = has_number f (evicted_in k a)
 
 -- the last arrival after the entry of this number: this entry where it brings the file in, none where it evicts it, else as it was
 abbrev pub arrival_after : Bool → Bool → ℕ → Option ℕ → Option ℕ
@@ -26,10 +30,10 @@ arrival_after true out n before = Some n
 arrival_after false true n before = None
 arrival_after false false n before = before
 
--- the last entry that brought the file in, where no later answer lists it as evicted
+-- the last entry that brought the file in, where no later one evicts it
 abbrev pub last_arrival : History → ℕ → Option ℕ
 last_arrival [] f = None
-last_arrival (e ∷ h) f = arrival_after (brings_in e.ask e.answer (next_number h) f) (lists_evicted e.answer f) (next_number h) (last_arrival h f)
+last_arrival (e ∷ h) f = arrival_after (brings_in e.ask e.answer (next_number h) f) (evicts e.ask e.answer f) (next_number h) (last_arrival h f)
 
 -- the arrival of a file: the entry that made it resident
 abbrev pub arrival_of : History → ℕ → Option ℕ

@@ -10,12 +10,13 @@ use Rattle.cta_model.specs.declared.asks.Direction.TheVariants as direction
 use Rattle.cta_model.specs.declared.asks.Job.{Job}
 use Rattle.cta_model.specs.declared.states.Mount.{Mount}
 use Rattle.cta_model.specs.declared.states.Candidate.{Candidate}
+use Rattle.cta_model.specs.declared.states.Sums.{Sums}
 use Rattle.cta_model.specs.History.{History}
 use Rattle.cta_model.specs.Files.{size_of}
 use Rattle.cta_model.specs.Mounts.{open_where, is_mounted, is_busy, is_down, same_direction}
 use Rattle.cta_model.specs.Tapes.{tape_state, may_be_written, may_be_read, used_bytes}
 use Rattle.cta_model.specs.Space.{free_space, evictable_size}
-use Rattle.cta_model.specs.Queues.{queue_of, queue_bytes, queue_priority, queue_age, born_at}
+use Rattle.cta_model.specs.Queues.{queue_of, sums_of}
 
 -- ---- warrants
 
@@ -38,17 +39,18 @@ abbrev pub files_threshold : Site → Direction → ℕ
 files_threshold site direction.Archive = site.limits.archive_files
 files_threshold site direction.Retrieve = site.limits.retrieve_files
 
--- a queue whose key has n open mounts is warranted by its bytes, by its files, or, where n is 0, by the age of its first job
-abbrev pub is_warranted_by : Site → History → ℕ → Direction → List Job → ℕ → Bool
-is_warranted_by site h t way [] n = false
-is_warranted_by site h t way (j ∷ q) n =
-    nat_le ((n + 1) * bytes_threshold site way) (queue_bytes h (j ∷ q))
-    || (nat_le ((n + 1) * files_threshold site way) (length (j ∷ q))
-    || (n == 0 && nat_le (born_at h j + queue_age site h way (j ∷ q)) t))
+-- a queue with these sums, whose key has n open mounts, is warranted by its bytes, by its files, or, where n is 0, by the age of its
+-- first job; an empty queue is never warranted
+abbrev pub is_warranted_by : Site → ℕ → Direction → ℕ → Option Sums → Bool
+is_warranted_by site t way n None = false
+is_warranted_by site t way n (Some s) =
+    nat_le ((n + 1) * bytes_threshold site way) s.bytes
+    || (nat_le ((n + 1) * files_threshold site way) s.files
+    || (n == 0 && nat_le (s.born + s.age) t))
 
 -- whether the queue of a key is warranted at t
 abbrev pub is_warranted : Site → History → ℕ → Direction → ℕ → Bool
-is_warranted site h t way key = is_warranted_by site h t way (queue_of site h way key) (mounts_of_key site h way key)
+is_warranted site h t way key = is_warranted_by site t way (mounts_of_key site h way key) (sums_of site h way (queue_of site h way key))
 
 -- ---- what a drive may mount
 
@@ -111,17 +113,17 @@ fits_drive site h t d way key =
 
 -- ---- the choice
 
--- the candidate of a queue and the tape for it, none where the queue is empty or there is no tape
-abbrev pub candidate_by : Site → History → Direction → ℕ → List Job → Option ℕ → List Candidate
-candidate_by site h way key [] v = []
-candidate_by site h way key (j ∷ q) None = []
-candidate_by site h way key (j ∷ q) (Some v) = record { direction = way; key = key; tape = v; priority = queue_priority site h way (j ∷ q); birth = j.birth } ∷ []
+-- the candidate of a queue with these sums and the tape for it, none where the queue is empty or there is no tape
+abbrev pub candidate_by : Direction → ℕ → Option Sums → Option ℕ → List Candidate
+candidate_by way key None v = []
+candidate_by way key (Some s) None = []
+candidate_by way key (Some s) (Some v) = record { direction = way; key = key; tape = v; priority = s.priority; birth = s.oldest.birth } ∷ []
 
 -- the candidate of a key: its queue, where it is warranted and fits the drive
 abbrev pub candidate_of : Site → History → ℕ → ℕ → Direction → ℕ → List Candidate
 candidate_of site h t d way key =
     if is_warranted site h t way key && fits_drive site h t d way key
-    then (let q = queue_of site h way key in candidate_by site h way key q (tape_for site h t d way key q))
+    then (let q = queue_of site h way key in candidate_by way key (sums_of site h way q) (tape_for site h t d way key q))
     else []
 
 -- the candidates of these keys in a direction, in the order of the keys

@@ -20,7 +20,7 @@ use Rattle.cta_model.specs.declared.asks.Ask.{Ask}
 use Rattle.cta_model.specs.declared.asks.Ask.TheVariants as ask
 use Rattle.cta_model.specs.History.{History}
 use Rattle.cta_model.specs.Recalls.{recall_job}
-use Rattle.cta_model.specs.Jobs.{job_of}
+use Rattle.cta_model.specs.Mounts.{job_of}
 use Rattle.cta_model.specs.Kept.{history_of}
 
 -- ---- sites

@@ -1,12 +1,13 @@
 -- Files. A file is named by the number of its Put.
-use Rattle.std.specs.Prelude.{ℕ, List, [], ◌∷◌, Option, Some, None, Bool, if◌then◌else◌, bytes_eq}
+use Rattle.std.specs.Prelude.{ℕ, List, [], ◌∷◌, Option, Some, None, Bool, if◌then◌else◌, bytes_eq, filter}
+use Rattle.std.specs.List.{range_with_len}
 use Rattle.cta_site.specs.declared.site.Site.{Site}
 use Rattle.cta_site.specs.Lookups.{copies_of}
 use Rattle.blob.specs.declared.sum.Sum256.{Sum256}
 use Rattle.cta_model.specs.declared.entries.Entry.{Entry}
 use Rattle.cta_model.specs.declared.asks.Ask.{Ask}
 use Rattle.cta_model.specs.declared.asks.Ask.TheVariants as ask
-use Rattle.cta_model.specs.History.{History, next_number, entry_of, is_number}
+use Rattle.cta_model.specs.History.{History, next_number, entry_numbers, entry_of, is_number}
 
 -- what a path names after the ask of the entry of this number
 abbrev pub live_after : Ask → ℕ → List ℕ → Option ℕ → Option ℕ
@@ -58,3 +59,11 @@ is_live h f = is_number f (live_file h (path_of h f))
 -- how many copies the class of a file has
 abbrev pub copies_of_file : Site → History → ℕ → ℕ
 copies_of_file site h f = copies_of site (path_of h f)
+
+-- the numbers of a file's copies, from 1
+abbrev pub copy_numbers : Site → History → ℕ → List ℕ
+copy_numbers site h f = range_with_len 1 (copies_of_file site h f)
+
+-- the live files, in the order of their Puts
+abbrev pub live_files : History → List ℕ
+live_files h = filter (is_live h) (entry_numbers h)

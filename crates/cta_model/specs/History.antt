@@ -1,6 +1,6 @@
 -- The history, newest entry first. The oldest entry has number 1, so the number of an entry is 1 plus how many are older.
 use Rattle.std.specs.Prelude.{ℕ, ◌+◌, max, length, List, [], ◌∷◌, Option, Some, None, Bool, true, false, if◌then◌else◌, ◌==◌, bytes_eq}
-use Rattle.std.specs.List.{list_any}
+use Rattle.std.specs.List.{list_any, range_with_len}
 use Rattle.cta_model.specs.declared.entries.Entry.{Entry}
 use Rattle.cta_model.specs.declared.asks.Ask.{Ask}
 use Rattle.cta_model.specs.declared.asks.Ask.TheVariants as ask
@@ -14,6 +14,10 @@ History = List Entry
 -- the number of the entry that comes next
 abbrev pub next_number : History → ℕ
 next_number h = length h + 1
+
+-- the numbers of the entries, from 1
+abbrev pub entry_numbers : History → List ℕ
+entry_numbers h = range_with_len 1 (length h)
 
 -- the entry of this number
 abbrev pub entry_of : History → ℕ → Option Entry

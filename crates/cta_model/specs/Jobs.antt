@@ -1,6 +1,6 @@
 -- Jobs. A job is live from its birth to its end. At most one recall of a file is live, and at most one archive job of a copy.
-use Rattle.std.specs.Prelude.{ℕ, zero, suc, List, [], ◌∷◌, ◌++◌, Option, Some, None, option_map, Bool, true, false, if◌then◌else◌, ◌==◌, ◌&&◌, ◌||◌, filter, nat_le, bytes_eq}
-use Rattle.std.specs.List.{list_any}
+use Rattle.std.specs.Prelude.{ℕ, zero, suc, List, [], ◌∷◌, ◌++◌, Option, Some, None, option_map, map, Bool, true, false, if◌then◌else◌, ◌==◌, ◌&&◌, ◌||◌, filter, nat_le, bytes_eq}
+use Rattle.std.specs.List.{list_any, flat_map}
 use Rattle.cta_site.specs.declared.site.Site.{Site}
 use Rattle.cta_site.specs.Lookups.{copies_of}
 use Rattle.cta_model.specs.declared.entries.Entry.{Entry}
@@ -12,42 +12,16 @@ use Rattle.cta_model.specs.declared.asks.Fate.{Fate}
 use Rattle.cta_model.specs.declared.asks.Fate.TheVariants as fate
 use Rattle.cta_model.specs.declared.asks.Item.{Item}
 use Rattle.cta_model.specs.declared.asks.Job.{Job}
-use Rattle.cta_model.specs.History.{History, next_number, entry_of, is_number}
-use Rattle.cta_model.specs.Files.{path_of, copies_of_file}
-use Rattle.cta_model.specs.Mounts.{same_job}
+use Rattle.cta_model.specs.History.{History, next_number, entry_numbers, is_number}
+use Rattle.cta_model.specs.Files.{path_of, copy_numbers}
+use Rattle.cta_model.specs.Mounts.{same_job, job_of, has_copy}
 use Rattle.cta_model.specs.Places.{flushed_in, is_done}
 use Rattle.cta_model.specs.Buffer.{is_resident}
 use Rattle.cta_model.specs.Charges.{is_last_charge}
 use Rattle.cta_model.specs.Recalls.{Recall, live_recall, waits_for}
+use Rattle.cta_model.specs.RepackItems.{is_repacked}
 
 -- ---- archive jobs
-
--- the job of this birth for a copy of a file, where copy 0 is its recall
-abbrev pub job_of : ℕ → ℕ → ℕ → Job
-job_of birth f c = record { birth = birth; file = f; copy = c }
-
--- whether the copy of the file is among these jobs, whatever their birth
-abbrev pub has_copy : ℕ → ℕ → List Job → Bool
-has_copy f c jobs = list_any (λ (j : Job). j.file == f && j.copy == c) jobs
-
--- the items that the answer to a Repack names, none for any other answer
-abbrev pub items_named : Answer → List Job
-items_named (answer.Repacking id items) = items.items
-items_named _ = []
-
--- the items of the repack that an entry makes, none where there is no entry or it makes no repack
-abbrev pub items_in : Option Entry → List Job
-items_in None = []
-items_in (Some e) = items_named e.answer
-
--- the entries that wait for a recall, none where there is no recall
-abbrev pub waiting_for : Option Recall → List ℕ
-waiting_for None = []
-waiting_for (Some r) = r.waiting
-
--- whether a repack that waits for the file's recall has the copy among its items
-abbrev pub is_repacked : Site → History → ℕ → ℕ → Bool
-is_repacked site h f c = list_any (λ s. has_copy f c (items_in (entry_of h s))) (waiting_for (live_recall site h f))
 
 -- whether an entry bears an archive job of the copy: the file's Put; a Retry of the copy; a Repack of the copy of a resident file;
 -- or the Recalled that makes the file of a repacked copy resident
@@ -86,19 +60,9 @@ live_birth site h f (suc c) = archive_birth site h f (suc c)
 abbrev pub is_live_job : Site → History → Job → Bool
 is_live_job site h j = is_number j.birth (live_birth site h j.file j.copy)
 
--- the live job of a copy of a file where it has this birth, and none otherwise; copy 0 is the recall
-abbrev pub born_copy : Site → History → ℕ → ℕ → ℕ → List Job
-born_copy site h birth f c = if is_number birth (live_birth site h f c) then job_of birth f c ∷ [] else []
-
--- the jobs of this birth of a file's recall and its copies from 1 to n
-abbrev pub born_copies : Site → History → ℕ → ℕ → ℕ → List Job
-born_copies site h birth f zero = born_copy site h birth f 0
-born_copies site h birth f (suc c) = born_copies site h birth f c ++ born_copy site h birth f (suc c)
-
--- those of the files from 1 to n
-abbrev pub born_files : Site → History → ℕ → ℕ → List Job
-born_files site h birth zero = []
-born_files site h birth (suc f) = born_files site h birth f ++ born_copies site h birth (suc f) (copies_of_file site h (suc f))
+-- the jobs of this birth that there may be for a file: its recall, and one for each of its copies
+abbrev pub jobs_for : Site → History → ℕ → ℕ → List Job
+jobs_for site h birth f = map (job_of birth f) (0 ∷ copy_numbers site h f)
 
 -- the asks by which a job may be born
 abbrev pub may_bear : Ask → Bool
@@ -109,27 +73,26 @@ may_bear (ask.Repack who v) = true
 may_bear (ask.Retry who paths) = true
 may_bear _ = false
 
--- the jobs born by the newest entry e, by file and copy
+-- the jobs born by the newest entry e, by file and copy: those with its number as birth that are live behind it
 abbrev pub newly_born : Site → History → Entry → List Job
-newly_born site h e = if may_bear e.ask then born_files site (e ∷ h) (next_number h) (next_number h) else []
+newly_born site h e =
+    if may_bear e.ask
+    then filter (is_live_job site (e ∷ h)) (flat_map (jobs_for site (e ∷ h) (next_number h)) (entry_numbers (e ∷ h)))
+    else []
 
 -- all jobs that were ever born, in order of birth, file and copy
 abbrev pub jobs_born : Site → History → List Job
 jobs_born site [] = []
 jobs_born site (e ∷ h) = jobs_born site h ++ newly_born site h e
 
--- the live jobs, in order of birth
-abbrev pub live_jobs : Site → History → List Job
-live_jobs site h = filter (is_live_job site h) (jobs_born site h)
-
 -- whether an entry, where h are those before it, subscribes to a recall: it waits for the file, and bears the recall or finds it live
 abbrev pub subscribes : Site → History → Ask → Job → Bool
 subscribes site h k j = waits_for site h k j.file && (next_number h == j.birth || is_live_job site h j)
 
--- the subscribers of a recall: the Stage and Repack entries that named its file when it was born or while it was live, newest first
+-- the subscribers of a recall, in order: the Stage and Repack entries that named its file when it was born or while it was live
 abbrev pub subscribers_of : Site → History → Job → List ℕ
 subscribers_of site [] j = []
-subscribers_of site (e ∷ h) j = if subscribes site h e.ask j then next_number h ∷ subscribers_of site h j else subscribers_of site h j
+subscribers_of site (e ∷ h) j = subscribers_of site h j ++ (if subscribes site h e.ask j then next_number h ∷ [] else [])
 
 -- the end of a job after the entry of this number: the earlier end, else this entry where the job was live before it and is not after it
 abbrev pub end_after : Bool → Bool → ℕ → Option ℕ → Option ℕ

@@ -7,9 +7,11 @@ pub mod Places
 pub mod Buffer
 pub mod Charges
 pub mod Recalls
+pub mod RepackItems
 pub mod Jobs
 pub mod Stages
 pub mod Repacks
+pub mod Pins
 pub mod Space
 pub mod Policies
 pub mod Queues

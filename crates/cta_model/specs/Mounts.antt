@@ -55,14 +55,18 @@ asked_mount (ask.Failed m fault charged returned) = m
 asked_mount (ask.End m fault) = m
 asked_mount _ = 0
 
--- the tape of a mount, 0 where there is no mount
+-- a number that no tape and no drive has: a site has far fewer
+abbrev pub no_number : ℕ
+no_number = 4294967295
+
+-- the tape of a mount, and no tape where there is no mount
 abbrev pub tape_by : Option Mount → ℕ
-tape_by None = 0
+tape_by None = no_number
 tape_by (Some m) = m.tape
 
--- the drive of a mount, 0 where there is no mount
+-- the drive of a mount, and no drive where there is no mount
 abbrev pub drive_by : Option Mount → ℕ
-drive_by None = 0
+drive_by None = no_number
 drive_by (Some m) = m.drive
 
 -- the tape of a mount
@@ -127,6 +131,14 @@ same_job a b = (a.birth == b.birth) && ((a.file == b.file) && (a.copy == b.copy)
 abbrev pub has_job : Job → List Job → Bool
 has_job j jobs = list_any (same_job j) jobs
 
+-- the job of this birth for a copy of a file, where copy 0 is its recall
+abbrev pub job_of : ℕ → ℕ → ℕ → Job
+job_of birth f c = record { birth = birth; file = f; copy = c }
+
+-- whether the copy of the file is among these jobs, whatever their birth
+abbrev pub has_copy : ℕ → ℕ → List Job → Bool
+has_copy f c jobs = list_any (λ (j : Job). j.file == f && j.copy == c) jobs
+
 -- the jobs of items
 abbrev pub item_jobs : List Item → List Job
 item_jobs items = map (λ (i : Item). i.job) items
@@ -148,9 +160,22 @@ abbrev pub claimed_items : History → ℕ → List Item
 claimed_items [] m = []
 claimed_items (e ∷ h) m = claimed_after e.ask e.answer m (claimed_items h m)
 
+-- whether a mount claims a job
+abbrev pub claims : History → ℕ → Job → Bool
+claims h m j = has_job j (item_jobs (claimed_items h m))
+
 -- the open mount that claims a job
 abbrev pub claimer_of : History → Job → Option ℕ
-claimer_of h j = find (λ m. has_job j (item_jobs (claimed_items h m))) (open_mounts h)
+claimer_of h j = find (λ m. claims h m j) (open_mounts h)
+
+-- whether an ask is a Claim whose batch names the job
+abbrev pub claim_names : Ask → Answer → Job → Bool
+claim_names (ask.Claim m) (answer.Batch items evicted) j = has_job j (item_jobs items.items)
+claim_names _ _ j = false
+
+-- whether some Claim has named the job
+abbrev pub was_claimed : History → Job → Bool
+was_claimed h j = list_any (λ (e : Entry). claim_names e.ask e.answer j) h
 
 -- the items of a mount's Claim that is answered with a batch, none for any other ask
 abbrev pub batch_in : Ask → Answer → ℕ → Option (List Item)

@@ -1,6 +1,6 @@
 -- Places: where on tape the copies of files are.
-use Rattle.std.specs.Prelude.{ℕ, zero, suc, List, [], ◌∷◌, ◌++◌, Option, Some, None, option_to_list, is_some, Bool, true, false, if◌then◌else◌, ◌==◌, ◌&&◌, not, filter, zip}
-use Rattle.std.specs.List.{list_any}
+use Rattle.std.specs.Prelude.{ℕ, List, [], ◌∷◌, Option, Some, None, is_some, Bool, true, false, if◌then◌else◌, ◌==◌, ◌&&◌, not, filter, zip}
+use Rattle.std.specs.List.{list_any, list_all, filter_map}
 use Rattle.cta_site.specs.declared.site.Site.{Site}
 use Rattle.cta_model.specs.declared.asks.Ask.{Ask}
 use Rattle.cta_model.specs.declared.asks.Ask.TheVariants as ask
@@ -11,9 +11,9 @@ use Rattle.cta_model.specs.declared.asks.Fate.TheVariants as fate
 use Rattle.cta_model.specs.declared.asks.Item.{Item}
 use Rattle.cta_model.specs.declared.states.Place.{Place}
 use Rattle.cta_model.specs.History.{History}
-use Rattle.cta_model.specs.Files.{is_live, copies_of_file}
+use Rattle.cta_model.specs.Files.{is_live, copy_numbers}
 use Rattle.cta_model.specs.Mounts.{asked_mount, tape_of_mount}
-use Rattle.cta_model.specs.Tapes.{tape_state, is_broken}
+use Rattle.cta_model.specs.Tapes.{tape_state, is_broken, tape_items}
 
 -- whether a fate is Done: its job had not ended
 abbrev pub is_done : Fate → Bool
@@ -52,14 +52,9 @@ was_flushed h f c = is_some (last_flushed h f c)
 abbrev pub place_of : History → ℕ → ℕ → Option Place
 place_of h f c = if is_live h f then last_flushed h f c else None
 
--- the places of the copies from 1 to n, on whatever tapes
-abbrev pub places_up_to : History → ℕ → ℕ → List Place
-places_up_to h f zero = []
-places_up_to h f (suc n) = places_up_to h f n ++ option_to_list (place_of h f (suc n))
-
 -- every place of a file, on whatever tapes, by copy
 abbrev pub all_places : Site → History → ℕ → List Place
-all_places site h f = places_up_to h f (copies_of_file site h f)
+all_places site h f = filter_map (place_of h f) (copy_numbers site h f)
 
 -- the places of a file: those on tapes that are not BROKEN, by copy
 abbrev pub places_of : Site → History → ℕ → List Place
@@ -69,11 +64,15 @@ places_of site h f = filter (λ (p : Place). not (is_broken (tape_state site h p
 abbrev pub has_place_on : ℕ → List Place → Bool
 has_place_on v places = list_any (λ (p : Place). p.tape == v) places
 
--- whether each copy of the file from 1 to n was flushed
-abbrev pub copies_flushed : History → ℕ → ℕ → Bool
-copies_flushed h f zero = true
-copies_flushed h f (suc n) = copies_flushed h f n && was_flushed h f (suc n)
-
 -- a file is taped where each copy of its class was flushed
 abbrev pub is_taped : Site → History → ℕ → Bool
-is_taped site h f = copies_flushed h f (copies_of_file site h f)
+is_taped site h f = list_all (was_flushed h f) (copy_numbers site h f)
+
+-- whether a copy's place is on this tape, at this fSeq
+abbrev pub is_at : ℕ → ℕ → Option Place → Bool
+is_at v s None = false
+is_at v s (Some p) = p.tape == v && p.fseq == s
+
+-- the items of a tape, in order, that are the places of copies of live files: in order of fSeq, and each such copy once
+abbrev pub live_items_on : History → ℕ → List Item
+live_items_on h v = filter (λ (i : Item). is_at v i.fseq (place_of h i.job.file i.job.copy)) (tape_items h v)

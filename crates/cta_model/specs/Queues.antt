@@ -1,18 +1,19 @@
 -- Queues. The key of an archive queue is a pool, that of a recall queue is a tape.
-use Rattle.std.specs.Prelude.{ℕ, zero, suc, ◌%◌, length, List, [], ◌∷◌, Option, option_map, is_none, Bool, ◌&&◌, filter, sum_by, min, max, map, slice_get}
+use Rattle.std.specs.Prelude.{ℕ, zero, suc, ◌%◌, length, List, [], ◌∷◌, Option, Some, None, option_map, is_none, Bool, ◌&&◌, filter, sum_by, min, max, map, slice_get}
 use Rattle.cta_site.specs.declared.site.Site.{Site}
 use Rattle.cta_site.specs.Lookups.{pool_of, class_of}
 use Rattle.cta_model.specs.declared.asks.Direction.{Direction}
 use Rattle.cta_model.specs.declared.asks.Direction.TheVariants as direction
 use Rattle.cta_model.specs.declared.asks.Job.{Job}
 use Rattle.cta_model.specs.declared.states.Place.{Place}
+use Rattle.cta_model.specs.declared.states.Sums.{Sums}
 use Rattle.cta_model.specs.History.{History, entry_of, moment_by, is_number}
 use Rattle.cta_model.specs.Files.{path_of, size_of}
 use Rattle.cta_model.specs.Mounts.{claimer_of, same_direction}
 use Rattle.cta_model.specs.Tapes.{tape_state, may_be_read}
 use Rattle.cta_model.specs.Places.{places_of}
 use Rattle.cta_model.specs.Charges.{charges_of}
-use Rattle.cta_model.specs.Jobs.{live_jobs}
+use Rattle.cta_model.specs.Jobs.{is_live_job, jobs_born}
 use Rattle.cta_model.specs.Policies.{policy_of, priority_in, age_in}
 
 -- ---- keys
@@ -52,13 +53,13 @@ way_by (suc c) = direction.Archive
 abbrev pub direction_of : Job → Direction
 direction_of j = way_by j.copy
 
--- a live job stands in the queue of its key where no mount claims it
-abbrev pub stands_in : Site → History → Direction → ℕ → Job → Bool
-stands_in site h way key j = same_direction way (direction_of j) && (is_none (claimer_of h j) && is_number key (key_of site h j))
+-- a job is queued under a key where it is live, goes this way, is claimed by no mount, and has the key
+abbrev pub is_queued : Site → History → Direction → ℕ → Job → Bool
+is_queued site h way key j = is_live_job site h j && (same_direction way (direction_of j) && (is_none (claimer_of h j) && is_number key (key_of site h j)))
 
 -- the queue of a key, in order of birth, file and copy
 abbrev pub queue_of : Site → History → Direction → ℕ → List Job
-queue_of site h way key = filter (stands_in site h way key) (live_jobs site h)
+queue_of site h way key = filter (is_queued site h way key) (jobs_born site h)
 
 -- ---- sums of a queue
 
@@ -88,3 +89,16 @@ queue_age site h way q = least (map (λ j. age_in way (policy_of site h j)) q)
 -- the moment of a job's birth
 abbrev pub born_at : History → Job → ℕ
 born_at h j = moment_by (entry_of h j.birth)
+
+-- the sums of a queue, none where it is empty
+abbrev pub sums_of : Site → History → Direction → List Job → Option Sums
+sums_of site h way [] = None
+sums_of site h way (j ∷ q) = Some (record {
+  files = length (j ∷ q);
+  bytes = queue_bytes h (j ∷ q);
+  least = least (map (λ (k : Job). size_of h k.file) (j ∷ q));
+  oldest = j;
+  born = born_at h j;
+  priority = queue_priority site h way (j ∷ q);
+  age = queue_age site h way (j ∷ q);
+})

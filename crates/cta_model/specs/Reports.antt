@@ -1,13 +1,12 @@
 -- What looks report: files, stage requests, repacks, failed copies, tapes and queues.
-use Rattle.std.specs.Prelude.{ℕ, zero, suc, length, List, [], ◌∷◌, ◌++◌, Option, Some, None, Bool, false, if◌then◌else◌, ◌==◌, ◌&&◌, min, max, map, filter, codes}
-use Rattle.std.specs.List.{range_with_len}
+use Rattle.std.specs.Prelude.{ℕ, length, List, [], ◌∷◌, ◌++◌, Option, Some, None, Bool, false, ◌==◌, ◌&&◌, min, max, map, filter, codes}
+use Rattle.std.specs.List.{range_with_len, flat_map}
 use Rattle.cta_site.specs.declared.site.Site.{Site}
 use Rattle.cta_site.specs.Listed.{rows}
 use Rattle.cta_site.specs.Lookups.{pool_name, vid_of}
 use Rattle.cta_model.specs.declared.asks.Direction.{Direction}
 use Rattle.cta_model.specs.declared.asks.Direction.TheVariants as direction
 use Rattle.cta_model.specs.declared.asks.Job.{Job}
-use Rattle.cta_model.specs.declared.asks.Wanted.{Wanted}
 use Rattle.cta_model.specs.declared.reports.PlaceInfo.{PlaceInfo}
 use Rattle.cta_model.specs.declared.reports.StageInfo.{StageInfo}
 use Rattle.cta_model.specs.declared.reports.StageFileInfo.{StageFileInfo}
@@ -16,19 +15,22 @@ use Rattle.cta_model.specs.declared.reports.RepackItem.{RepackItem}
 use Rattle.cta_model.specs.declared.reports.FailedCopy.{FailedCopy}
 use Rattle.cta_model.specs.declared.reports.TapeInfo.{TapeInfo}
 use Rattle.cta_model.specs.declared.reports.QueueInfo.{QueueInfo}
-use Rattle.cta_model.specs.declared.states.StageFile.{StageFile}
-use Rattle.cta_model.specs.History.{History, entry_of, moment_by}
-use Rattle.cta_model.specs.Files.{live_file, path_of, copies_of_file}
+use Rattle.cta_model.specs.declared.states.RequestFile.{RequestFile}
+use Rattle.cta_model.specs.declared.states.RepackCopy.{RepackCopy}
+use Rattle.cta_model.specs.declared.states.Sums.{Sums}
+use Rattle.cta_model.specs.History.{History}
+use Rattle.cta_model.specs.Files.{live_file, live_files, path_of}
 use Rattle.cta_model.specs.Tapes.{tape_state, used_bytes, next_fseq}
+use Rattle.cta_model.specs.Places.{live_items_on}
 use Rattle.cta_model.specs.Buffer.{is_resident}
 use Rattle.cta_model.specs.Charges.{charges_of}
 use Rattle.cta_model.specs.Jobs.{jobs_born}
-use Rattle.cta_model.specs.Stages.{stage_file, charge_text}
-use Rattle.cta_model.specs.Repacks.{item_state}
-use Rattle.cta_model.specs.Queues.{queue_of, queue_bytes, born_at}
+use Rattle.cta_model.specs.Stages.{StageRequest, charge_text}
+use Rattle.cta_model.specs.Repacks.{Repack}
+use Rattle.cta_model.specs.Queues.{queue_of, sums_of}
 use Rattle.cta_model.specs.Choice.{all_tapes}
 use Rattle.cta_model.specs.Localities.{locality_of}
-use Rattle.cta_model.specs.Answers.{live_files, live_copies_on, is_failed}
+use Rattle.cta_model.specs.Answers.{failed_numbers}
 
 -- ---- files
 
@@ -48,9 +50,9 @@ abbrev pub is_on_disk : History → Option ℕ → Bool
 is_on_disk h None = false
 is_on_disk h (Some f) = is_resident h f
 
--- what is told of a path of a request: how its file stands, and whether it is on disk
-abbrev pub stage_file_info : History → List ℕ → StageFile → StageFileInfo
-stage_file_info h path s = record { path = path; state = s.state; on_disk = is_on_disk h s.file; started_at = s.started; finished_at = s.finished; error = s.error }
+-- what is told of a file of a request: how it stands, and whether it is on disk
+abbrev pub stage_file_info : History → RequestFile → StageFileInfo
+stage_file_info h s = record { path = s.path; state = s.state; on_disk = is_on_disk h s.file; started_at = s.started; finished_at = s.finished; error = s.error }
 
 -- the earlier of two moments that may be missing; one that is missing does not count
 abbrev pub earlier_of : Option ℕ → Option ℕ → Option ℕ
@@ -65,40 +67,35 @@ later_of (Some a) None = None
 later_of (Some a) (Some b) = Some (max a b)
 
 -- the least start of files, none where no file has started
-abbrev pub least_start : List StageFile → Option ℕ
+abbrev pub least_start : List RequestFile → Option ℕ
 least_start [] = None
 least_start (s ∷ ss) = earlier_of s.started (least_start ss)
 
 -- the greatest finish of files once all have one
-abbrev pub greatest_finish : List StageFile → Option ℕ
+abbrev pub greatest_finish : List RequestFile → Option ℕ
 greatest_finish [] = None
 greatest_finish (s ∷ []) = s.finished
 greatest_finish (s ∷ r ∷ ss) = later_of s.finished (greatest_finish (r ∷ ss))
 
--- how the files of a request stand, in the order in which their paths were first named
-abbrev pub stage_files : Site → History → ℕ → List Wanted → List StageFile
-stage_files site h id wanted = map (λ (w : Wanted). stage_file site h id w.path) wanted
-
--- what is told of a request that keeps these files: it was made at its Stage, starts at the least start of its files, and is completed
--- at their greatest finish
-abbrev pub stage_report : Site → History → ℕ → List Wanted → StageInfo
-stage_report site h id wanted = record {
+-- what is told of a request: it was made at its Stage, starts at the least start of its files, and is completed at their greatest finish
+abbrev pub stage_report : History → ℕ → StageRequest → StageInfo
+stage_report h id r = record {
   id = id;
-  created_at = moment_by (entry_of h id);
-  started_at = least_start (stage_files site h id wanted);
-  completed_at = greatest_finish (stage_files site h id wanted);
-  files = rows (map (λ (w : Wanted). stage_file_info h w.path (stage_file site h id w.path)) wanted);
+  created_at = r.at;
+  started_at = least_start r.files;
+  completed_at = greatest_finish r.files;
+  files = rows (map (stage_file_info h) r.files);
 }
 
 -- ---- repacks
 
 -- what is told of an item of a repack: the path in the Put of its file, its copy, and how it stands
-abbrev pub repack_item : Site → History → ℕ → Job → RepackItem
-repack_item site h id j = record { path = path_of h j.file; copy = j.copy; state = item_state site h id j.file j.copy }
+abbrev pub repack_item : History → RepackCopy → RepackItem
+repack_item h i = record { path = path_of h i.file; copy = i.copy; state = i.state }
 
--- what is told of a repack of this tape with these items
-abbrev pub repack_report : Site → History → ℕ → ℕ → List Job → RepackInfo
-repack_report site h id v items = record { id = id; vid = vid_of site v; items = rows (map (repack_item site h id) items) }
+-- what is told of a repack: its tape and its items
+abbrev pub repack_report : Site → History → ℕ → Repack → RepackInfo
+repack_report site h id r = record { id = id; vid = vid_of site r.tape; items = rows (map (repack_item h) r.items) }
 
 -- ---- failed copies
 
@@ -116,19 +113,9 @@ errors_of_last site h (j ∷ k ∷ jobs) = errors_of_last site h (k ∷ jobs)
 abbrev pub failed_copy : Site → History → ℕ → ℕ → FailedCopy
 failed_copy site h f c = record { path = path_of h f; copy = c; errors = rows (errors_of_last site h (jobs_of_copy site h f c)) }
 
--- the failed copies of a file among those from 1 to n
-abbrev pub failed_of_file : Site → History → ℕ → ℕ → List FailedCopy
-failed_of_file site h f zero = []
-failed_of_file site h f (suc c) = failed_of_file site h f c ++ (if is_failed site h f (suc c) then failed_copy site h f (suc c) ∷ [] else [])
-
--- the failed copies of these files, file by file
-abbrev pub failed_of_files : Site → History → List ℕ → List FailedCopy
-failed_of_files site h [] = []
-failed_of_files site h (f ∷ files) = failed_of_file site h f (copies_of_file site h f) ++ failed_of_files site h files
-
 -- the failed copies of all live files, in order of file and copy
 abbrev pub failed_copies : Site → History → List FailedCopy
-failed_copies site h = failed_of_files site h (live_files h)
+failed_copies site h = flat_map (λ f. map (failed_copy site h f) (failed_numbers site h f)) (live_files h)
 
 -- ---- tapes
 
@@ -139,21 +126,20 @@ tape_report site h v = record {
   vid = vid_of site v;
   state = tape_state site h v;
   used = used_bytes h v;
-  files = length (live_copies_on site h v);
+  files = length (live_items_on h v);
   next_fseq = next_fseq h v;
 }
 
 -- ---- queues
 
--- what is told of a queue that is not empty: its files and bytes, and the moment of its first job's birth
-abbrev pub queue_report : History → Direction → List ℕ → List Job → List QueueInfo
-queue_report h way name [] = []
-queue_report h way name (j ∷ q) = record { direction = way; key = name; files = length (j ∷ q); bytes = queue_bytes h (j ∷ q); oldest = born_at h j } ∷ []
+-- what is told of a queue with these sums: its files and bytes, and the moment of its first job's birth; nothing where it is empty
+abbrev pub queue_report : Direction → List ℕ → Option Sums → List QueueInfo
+queue_report way name None = []
+queue_report way name (Some s) = record { direction = way; key = name; files = s.files; bytes = s.bytes; oldest = s.born } ∷ []
 
 -- the reports of the queues of these keys in a direction, each key told by its name
 abbrev pub queue_reports_by : Site → History → Direction → (ℕ → List ℕ) → List ℕ → List QueueInfo
-queue_reports_by site h way name [] = []
-queue_reports_by site h way name (key ∷ keys) = queue_report h way (name key) (queue_of site h way key) ++ queue_reports_by site h way name keys
+queue_reports_by site h way name keys = flat_map (λ key. queue_report way (name key) (sums_of site h way (queue_of site h way key))) keys
 
 -- the reports of all queues that are not empty: archive by pool, and then retrieve by VID
 abbrev pub queue_reports : Site → History → List QueueInfo

@@ -1,19 +1,19 @@
 -- Space in the buffer, and what is evicted to make room.
-use Rattle.std.specs.Prelude.{ℕ, zero, suc, ◌+◌, ◌-◌, List, [], ◌∷◌, ◌++◌, is_some, Bool, false, ◌&&◌, ◌||◌, not, filter, sum_by}
+use Rattle.std.specs.Prelude.{ℕ, zero, suc, ◌+◌, ◌-◌, List, [], ◌∷◌, ◌++◌, is_some, Bool, ◌&&◌, not, filter, sum_by}
+use Rattle.std.specs.List.{list_any}
 use Rattle.cta_site.specs.declared.site.Site.{Site}
 use Rattle.cta_model.specs.declared.asks.Ask.{Ask}
 use Rattle.cta_model.specs.declared.asks.Ask.TheVariants as ask
 use Rattle.cta_model.specs.declared.asks.Direction.TheVariants as direction
 use Rattle.cta_model.specs.declared.states.Mount.{Mount}
 use Rattle.cta_model.specs.History.{History, next_number, is_number, is_empty}
-use Rattle.cta_model.specs.Files.{size_of, copies_of_file}
+use Rattle.cta_model.specs.Files.{size_of, copy_numbers}
 use Rattle.cta_model.specs.Mounts.{open_where, claimed_items, same_direction}
 use Rattle.cta_model.specs.Tapes.{size_of_items}
 use Rattle.cta_model.specs.Places.{is_taped, places_of}
 use Rattle.cta_model.specs.Buffer.{arrival_of}
 use Rattle.cta_model.specs.Jobs.{archive_birth}
-use Rattle.cta_model.specs.Stages.{stage_pins}
-use Rattle.cta_model.specs.Repacks.{repack_pins}
+use Rattle.cta_model.specs.Pins.{is_pinned}
 
 -- ---- taken and free
 
@@ -46,19 +46,17 @@ free_space site h = site.limits.buffer - (size_of_files h (resident_files h) + b
 
 -- ---- eviction
 
--- a file is pinned at t by a stage request, or by a live repack item
-abbrev pub is_pinned : Site → History → ℕ → ℕ → Bool
-is_pinned site h t f = stage_pins site h t f h || repack_pins site h f h
+-- whether some copy of the file has a live archive job
+abbrev pub has_archive_job : Site → History → ℕ → Bool
+has_archive_job site h f = list_any (λ c. is_some (archive_birth site h f c)) (copy_numbers site h f)
 
--- whether some copy of the file from 1 to n has a live archive job
-abbrev pub has_archive_job : Site → History → ℕ → ℕ → Bool
-has_archive_job site h f zero = false
-has_archive_job site h f (suc c) = has_archive_job site h f c || is_some (archive_birth site h f (suc c))
+-- a file is safe on tape where each copy of its class was flushed, it has a place, and no archive job of it is live
+abbrev pub is_safe : Site → History → ℕ → Bool
+is_safe site h f = is_taped site h f && (not (is_empty (places_of site h f)) && not (has_archive_job site h f))
 
--- a resident file may be evicted at t where it is not pinned, each copy of its class was flushed, it has a place, and no archive job
--- of it is live
+-- a resident file may be evicted at t where it is not pinned, and is safe on tape
 abbrev pub may_be_evicted : Site → History → ℕ → ℕ → Bool
-may_be_evicted site h t f = not (is_pinned site h t f) && (is_taped site h f && (not (is_empty (places_of site h f)) && not (has_archive_job site h f (copies_of_file site h f))))
+may_be_evicted site h t f = not (is_pinned site h t f) && is_safe site h f
 
 -- the evictable files at t, by arrival
 abbrev pub evictable_files : Site → History → ℕ → List ℕ

@@ -1,12 +1,12 @@
 // Histories that are legal, and what the definitions say of them: each shows one rule that a wrong definition would break.
-ghost use Rattle.std.specs.Prelude.{[], ◌∷◌, ◌≡◌};
+ghost use Rattle.std.specs.Prelude.{Some, [], ◌∷◌, ◌≡◌};
 ghost use Rattle.cta_model.specs.Answers.{answer_of};
 ghost use Rattle.cta_model.specs.Examples.{both_copies_on_tape, empty_file_on_tape, first_copy_on_tape, first_job, one_claimed, one_copy_site, one_put, one_reads, one_returned, put_b, read_late, recalls_first_site, repack_read, repack_written, second_copy_queued, somebody, two_class_site, two_copy_site, two_priorities, two_tape_site, with_small_buffer};
 ghost use Rattle.cta_model.specs.Legal.{IsLegal};
 ghost use Rattle.cta_model.specs.Localities.{locality_of};
 ghost use Rattle.cta_model.specs.Places.{place_of};
 ghost use Rattle.cta_model.specs.Queues.{queue_of};
-ghost use Rattle.cta_model.specs.Repacks.{item_state};
+ghost use Rattle.cta_model.specs.Repacks.{repack_of};
 ghost use Rattle.cta_model.specs.declared.answers.Answer.TheVariants as answer;
 ghost use Rattle.cta_model.specs.declared.answers.Refusal.TheVariants as refusal;
 ghost use Rattle.cta_model.specs.declared.asks.Ask.TheVariants as ask;
@@ -74,11 +74,11 @@ pub fn late_read_is_dropped()
 /// The old place of a repacked copy counts until the new one is flushed, and only then the tape may be reclaimed.
 pub fn old_place_counts_until_the_new()
     ensures read { IsLegal (with_small_buffer two_tape_site) repack_read }
-    ensures writing { item_state (with_small_buffer two_tape_site) repack_read 9 1 1 ≡ item.Writing }
+    ensures writing { repack_of (with_small_buffer two_tape_site) repack_read 9 ≡ Some (record { tape = 0; items = record { file = 1; copy = 1; state = item.Writing } ∷ [] }) }
     ensures old_place { place_of repack_read 1 1 ≡ Some (record { copy = 1; tape = 0; fseq = 1 }) }
     ensures kept { answer_of (with_small_buffer two_tape_site) repack_read 100 (ask.Reclaim somebody 0) ≡ answer.Refused refusal.LiveFiles }
     ensures written { IsLegal (with_small_buffer two_tape_site) repack_written }
-    ensures done { item_state (with_small_buffer two_tape_site) repack_written 9 1 1 ≡ item.Done }
+    ensures done { repack_of (with_small_buffer two_tape_site) repack_written 9 ≡ Some (record { tape = 0; items = record { file = 1; copy = 1; state = item.Done } ∷ [] }) }
     ensures new_place { place_of repack_written 1 1 ≡ Some (record { copy = 1; tape = 1; fseq = 1 }) }
     ensures reclaimed { answer_of (with_small_buffer two_tape_site) repack_written 100 (ask.Reclaim somebody 0) ≡ answer.Done }
 {}

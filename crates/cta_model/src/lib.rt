@@ -26,4 +26,4 @@ pub use reports::{
     FailedCopy, FileState, ItemState, Locality, PlaceInfo, QueueInfo, RepackInfo, RepackItem,
     StageFileInfo, StageInfo, TapeInfo,
 };
-pub use states::{Candidate, Charge, Mount, Place, Recall, StageFile};
+pub use states::{Candidate, Charge, Mount, Place, Recall, RepackCopy, RequestFile, StageFile, Sums};

@@ -1,8 +1,8 @@
 // What the definitions speak of beside asks and answers.
 ghost use Rattle.std.specs.Prelude.{◌≡◌};
 
-use crate::asks::{Direction, Fault};
-use crate::reports::FileState;
+use crate::asks::{Direction, Fault, Job};
+use crate::reports::{FileState, ItemState};
 use cta_site::Text;
 use std::marker::Model;
 
@@ -41,17 +41,48 @@ pub struct Candidate {
     pub birth: u32,
 }
 
-/// How a file of a stage request stands, beside what is reported of it: which file its path named, the birth of the
-/// recall that it waits for (0 where it waits for none), and whether it was released.
+/// A file that a stage request is made of: its path, the file that the path named at the Stage (none where it named none),
+/// and for how many seconds it is to stay in the buffer once it is there.
 #[derive(Drop)]
 pub struct StageFile {
+    pub path: Text,
     pub file: Option<u32>,
-    pub birth: u32,
+    pub lifetime: u64,
+}
+
+/// How a file of a stage request stands: what the request was made of, its state with the moments of its start and its
+/// finish in seconds since 1970, its error where it failed, and whether it was released.
+#[derive(Drop)]
+pub struct RequestFile {
+    pub path: Text,
+    pub file: Option<u32>,
+    pub lifetime: u64,
     pub state: FileState,
     pub started: Option<u64>,
     pub finished: Option<u64>,
     pub error: Option<Text>,
     pub released: bool,
+}
+
+/// How an item of a repack stands: its file, its copy and its state.
+#[derive(Clone, Copy, Debug, PartialEq, Eq)]
+pub struct RepackCopy {
+    pub file: u32,
+    pub copy: u8,
+    pub state: ItemState,
+}
+
+/// The sums of a queue that is not empty: how many files and bytes, the least size of a file in bytes, the first job and
+/// the moment of its birth in seconds since 1970, the highest priority, and the least age in seconds.
+#[derive(Clone, Copy, Debug, PartialEq, Eq)]
+pub struct Sums {
+    pub files: u32,
+    pub bytes: u64,
+    pub least: u64,
+    pub oldest: Job,
+    pub born: u64,
+    pub priority: u32,
+    pub age: u64,
 }
 
 /// A live recall of a file: the number of the entry that it was born by, and the numbers of the Stage and Repack entries
