@@ -19,22 +19,22 @@ use Rattle.replay.specs.declared.status.Status.{Status}
 use Rattle.replay.specs.declared.status.Status.TheVariants.{Usage, Site as SiteRule, Script, ReadFault, WriteFault, NoMemory, TooLong, ListenFault, NotBuilt}
 use Rattle.replay.specs.declared.status.Status.TheVariants as status
 
-no_site : (s : Status) (bytes : List ℕ) (a b : SourceView) → Consumes a.left b.left bytes → IsAtEnd b.left → NoArchive s bytes → NoSite s a b
-no_site (SiteRule rule item) bytes a b took at h = (bytes, took, inr at, h)
-no_site NoMemory bytes a b took at h = tt
-no_site status.Ok bytes a b took at h = h
-no_site Usage bytes a b took at h = h
-no_site (Script offset) bytes a b took at h = h
-no_site ReadFault bytes a b took at h = absurd h
-no_site WriteFault bytes a b took at h = h
-no_site TooLong bytes a b took at h = h
-no_site ListenFault bytes a b took at h = h
-no_site (NotBuilt offset) bytes a b took at h = h
+no_site : (s : Status) (bytes : List ℕ) (a b : SourceView) → Consumes a.left b.left bytes → IsAtEnd b.left → length bytes ≤ site_limit → NoArchive s bytes → NoSite s a b
+no_site (SiteRule rule item) bytes a b took at few h = (bytes, took, inr (at, few), h)
+no_site NoMemory bytes a b took at few h = tt
+no_site status.Ok bytes a b took at few h = h
+no_site Usage bytes a b took at few h = h
+no_site (Script offset) bytes a b took at few h = h
+no_site ReadFault bytes a b took at few h = absurd h
+no_site WriteFault bytes a b took at few h = h
+no_site TooLong bytes a b took at few h = h
+no_site ListenFault bytes a b took at few h = h
+no_site (NotBuilt offset) bytes a b took at few h = h
 
 -- an archive made of the whole site file
-pub site_read : (r : Result Kept Status) (bytes : List ℕ) (a b : SourceView) → Consumes a.left b.left bytes → IsAtEnd b.left → ArchiveMade r bytes → SiteRead r a b
-site_read (Ok archive) bytes a b took at h = ((bytes, took, at, h.0), h.1)
-site_read (Err s) bytes a b took at h = no_site s bytes a b took at h
+pub site_read : (r : Result Kept Status) (bytes : List ℕ) (a b : SourceView) → Consumes a.left b.left bytes → IsAtEnd b.left → length bytes ≤ site_limit → ArchiveMade r bytes → SiteRead r a b
+site_read (Ok archive) bytes a b took at few h = ((bytes, took, at, h.0), h.1)
+site_read (Err s) bytes a b took at few h = no_site s bytes a b took at few h
 
 -- too many bytes break rule 1
 pub too_long : (bytes : List ℕ) → site_limit + 1 ≤ length bytes → site_fault bytes ≡ Some (1, 0)

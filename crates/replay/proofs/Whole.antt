@@ -31,7 +31,7 @@ by_site (SiteRule rule item) file a b e kept calm (bytes, t, inl long, broken) =
     absurd (omega (arith, long, s.0, fits))
 by_site (SiteRule rule item) file a b e kept calm (bytes, t, inr end, broken) =
     let s = taken_site file bytes a.left b.left e t in
-    let same : site_fault bytes ≡ site_fault file = ap site_fault (s.1 end) in
+    let same : site_fault bytes ≡ site_fault file = ap site_fault (s.1 end.0) in
     absurd (cc)
 by_site (Script offset) file a b e kept calm h = absurd h
 by_site ReadFault file a b e kept calm h = absurd (calm h.3)

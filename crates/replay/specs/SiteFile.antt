@@ -63,9 +63,9 @@ NoArchive (NotBuilt offset) bytes = ⊥
 abbrev pub ArchiveMade : Result Kept Status → List ℕ → Type 0
 ArchiveMade r bytes = MatchResult r (IsArchiveOf bytes) (λ status. NoArchive status bytes)
 
--- all bytes of a site file were taken, or one more than it may have
+-- all bytes of a site file were taken, no more than it may have, or one more than that
 abbrev pub IsTakenSite : List ℕ → SourceView → Type 0
-IsTakenSite bytes b = (length bytes ≡ site_limit + 1) ⊎ IsAtEnd b.left
+IsTakenSite bytes b = (length bytes ≡ site_limit + 1) ⊎ (IsAtEnd b.left × (length bytes ≤ site_limit))
 
 -- when each status comes for a site file
 abbrev pub NoSite : Status → SourceView → SourceView → Type 0

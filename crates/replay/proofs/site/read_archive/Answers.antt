@@ -6,7 +6,7 @@ use Rattle.replay.proofs.site.read_archive.Goals as goal
 pub returns-in-Whole : goal.returns-in-Whole
 returns-in-Whole g c =
     let t = c.in-Whole.ensures in
-    site_read c.archive_of.result _ _ _ t.0 t.1 (subst (ArchiveMade c.archive_of.result) c.deref.ensures.value c.archive_of.ensures)
+    site_read c.archive_of.result _ _ _ t.0 t.1 t.2 (subst (ArchiveMade c.archive_of.result) c.deref.ensures.value c.archive_of.ensures)
 
 pub returns-in-Long : goal.returns-in-Long
 returns-in-Long g c = let t = c.in-Long.ensures in (_, t.0, inl t.1, too_long _ (omega (arith, t.1)))
