@@ -1,5 +1,5 @@
 -- What an accepted ask is answered, ask by ask.
-use Rattle.std.proofs.Common.{◌≡◌, ℕ, ◌+◌, List, [], ◌∷◌, ◌++◌, Bool, true, false, not, refl, length, ◌⊎◌, inl, inr}
+use Rattle.std.proofs.Common.{◌≡◌, ℕ, ◌+◌, List, [], ◌∷◌, ◌++◌, Bool, true, false, not, refl, length, ◌⊎◌, inl, inr, subst, arith}
 use Rattle.std.specs.Prelude.{Option, Some, None, is_some, is_none, if◌then◌else◌, ◌&&◌, map, nat_le, nat_lt}
 use Rattle.std.specs.List.{list_any}
 use Rattle.cta_site.specs.declared.site.Site.{Site}
@@ -41,32 +41,12 @@ use Rattle.cta_model.specs.declared.answers.Refusal.TheVariants as refusal
 use Rattle.cta_model.specs.declared.asks.Direction.TheVariants as direction
 use Rattle.cta_model.specs.declared.asks.Fate.TheVariants as fate
 use Rattle.cta_model.specs.declared.asks.Fault.TheVariants as fault
+use Rattle.cta_laws.specs.Asks.{AnswerIs, AsksAreAnswered}
 
 -- an accepted answer was not refused
 pub past : (r : Refusal) (t : Bool) (a b : Answer) → b ≡ refuse r t a → is_accepted b ≡ true → (t ≡ false) × (b ≡ a)
 past r true a b e y = absurd (cc)
 past r false a b e y = (refl, e)
-
--- what an accepted ask is answered at the moment t, and which tests it passed
-abbrev pub AnswerIs : Site → History → ℕ → Ask → Answer → Type 0
-AnswerIs site h t (ask.Put who path sum) a = (a ≡ answer.Stored (rows (evicted_for site h t sum.len))) × (is_some (live_file h path) ≡ false) × (nat_lt (free_space site h + evictable_size site h t) sum.len ≡ false)
-AnswerIs site h t (ask.Delete who path) a = (a ≡ answer.Done) × (is_none (live_file h path) ≡ false)
-AnswerIs site h t (ask.Stage who files) a = a ≡ answer.Staged (length h + 1)
-AnswerIs site h t (ask.Cancel who id paths) a = (a ≡ answer.Done) × (is_some (request_of site h id) ≡ true)
-AnswerIs site h t (ask.DropStage who id) a = (a ≡ answer.Done) × (is_none (request_of site h id) ≡ false)
-AnswerIs site h t (ask.Release who id paths) a = (a ≡ answer.Done) × (is_some (request_of site h id) ≡ true)
-AnswerIs site h t (ask.Next d) a = (c : Candidate) × (mount_choice site h t d ≡ Some c) × (a ≡ answer.Mounted (length h + 1) c.direction c.tape)
-AnswerIs site h t (ask.Claim m) a = (x : Mount) × (mount_of h m ≡ Some x) × (a ≡ batch_answer site h t x.direction (batch_of site h t x))
-AnswerIs site h t (ask.Flushed m items) a = a ≡ answer.Told (rows (map (λ (i : Item). fate_of site h i.job) items.items))
-AnswerIs site h t (ask.Recalled m job) a = a ≡ answer.Arrived (fate_of site h job)
-AnswerIs site h t (ask.Failed m fault charged returned) a = a ≡ answer.Done
-AnswerIs site h t (ask.End m fault) a = a ≡ answer.Done
-AnswerIs site h t (ask.DriveUp who d) a = a ≡ answer.Done
-AnswerIs site h t (ask.DriveDown who d) a = a ≡ answer.Done
-AnswerIs site h t (ask.TapeState who v s) a = (a ≡ answer.Done) × (is_mounted h v ≡ false) × (is_broken (tape_state site h v) ≡ false)
-AnswerIs site h t (ask.Reclaim who v) a = (a ≡ answer.Done) × (is_mounted h v ≡ false) × (is_empty (live_items_on h v) ≡ true)
-AnswerIs site h t (ask.Repack who v) a = (a ≡ answer.Repacking (length h + 1) (rows (repack_items h v))) × (may_be_repacked (tape_state site h v) ≡ true)
-AnswerIs site h t (ask.Retry who paths) a = a ≡ answer.Retried (rows (retried_jobs site h [] paths.items))
 
 pub request_is : (o : Option StageRequest) (paths : List (List ℕ)) (a : Answer) → a ≡ request_answer o paths → is_accepted a ≡ true → (a ≡ answer.Done) × (is_some o ≡ true)
 request_is None paths a e y = absurd (cc)
@@ -165,3 +145,6 @@ fate_by site h job = by (is_live_job site h job)
     by : (b : Bool) → ((if b then fate.Done else fate.Stale) ≡ fate.Done) ⊎ ((if b then fate.Done else fate.Stale) ≡ fate.Stale)
     by true = inl refl
     by false = inr refl
+
+pub asks_are_answered : AsksAreAnswered
+asks_are_answered site h e legal = subst (λ (t : ℕ). AnswerIs site h t e.ask e.answer) (omega (arith, legal.1.later)) (answer_is site h e.at e.ask e.answer legal.1.answered legal.1.accepted)

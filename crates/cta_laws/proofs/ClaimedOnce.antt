@@ -25,10 +25,10 @@ use Rattle.cta_laws.specs.Jobs.{count_job}
 use Rattle.cta_laws.proofs.Tests.{bool_cases, or_left}
 use Rattle.cta_laws.proofs.Claims.{AllOf, all_filter, IsBatch, claim_is_batch}
 use Rattle.cta_laws.proofs.OnceLaw.{same_job_eq}
-use Rattle.cta_laws.proofs.LengthLaw.{job_self}
+use Rattle.cta_laws.proofs.JobLists.{job_self, without_twice, still_there, or_none}
 use Rattle.cta_laws.proofs.StandLaw.{count_filter, stands_once}
 use Rattle.cta_laws.proofs.ClaimLaw.{names_unclaimed, unclaimed_by}
-use Rattle.cta_laws.proofs.Sums.{total, size_in, IsOfFile, IsDistinct, file_size, without_twice, still_there, or_none}
+use Rattle.cta_laws.proofs.Sums.{total, size_in, IsOfFile, IsDistinct, file_size}
 use Rattle.cta_model.specs.declared.asks.Ask.TheVariants as ask
 use Rattle.cta_model.specs.declared.asks.Direction.TheVariants as direction
 use Rattle.cta_model.specs.declared.answers.Answer.TheVariants as answer

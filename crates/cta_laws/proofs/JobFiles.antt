@@ -29,7 +29,8 @@ use Rattle.cta_laws.proofs.Tests.{bool_cases, or_cases, or_left, next_not}
 use Rattle.cta_laws.proofs.Claims.{AllOf, all_append}
 use Rattle.cta_laws.proofs.OnceLaw.{birth_in}
 use Rattle.cta_laws.proofs.PlaceLaw.{live_before, named_within}
-use Rattle.cta_laws.proofs.LengthLaw.{not_unknown, job_self}
+use Rattle.cta_laws.proofs.LengthLaw.{not_unknown}
+use Rattle.cta_laws.proofs.JobLists.{job_self}
 use Rattle.cta_laws.proofs.LostLaw.{resident_by, evicts_may, kept_live}
 use Rattle.cta_laws.proofs.RangeLaw.{archive_range}
 use Rattle.cta_laws.proofs.ResidentLaw.{recall_live, born_live}

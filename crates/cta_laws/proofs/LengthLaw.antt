@@ -15,10 +15,12 @@ use Rattle.cta_model.specs.declared.answers.Refusal.TheVariants as refusal
 use Rattle.cta_model.specs.declared.asks.Job.{Job}
 use Rattle.cta_model.specs.declared.asks.Item.{Item}
 use Rattle.cta_model.specs.History.{History, moment_of, last_moment, weight_of, weight_of_entry, has_number, is_empty}
-use Rattle.cta_model.specs.Mounts.{mount_of, open_mounts, open_after, claimed_items, claimed_after, without_jobs, has_job, item_jobs, same_job, is_open, last_batch, batch_in, batch_or}
+use Rattle.cta_model.specs.Mounts.{mount_of, open_mounts, open_after, claimed_items, claimed_after, without_jobs, has_job, item_jobs, same_job, is_open, last_batch, batch_in, batch_or, tape_of_mount, asked_mount}
 use Rattle.cta_model.specs.Answers.{refuse, answer_of, light_answer, is_accepted, may_be_refused_for_weight, is_too_heavy, claims_all, names_twice, is_known, is_last_batch}
 use Rattle.cta_model.specs.Legal.{IsLegal, IsNext, IsFit}
-use Rattle.cta_laws.specs.Lengths.{StaysShort, MomentsNeverFall}
+use Rattle.cta_laws.specs.Lengths.{StaysShort, MomentsNeverFall, FseqsAreLow}
+use Rattle.cta_model.specs.Tapes.{tape_items, items_after}
+use Rattle.cta_laws.proofs.JobLists.{filter_le, job_self, without_less, without_many}
 use Rattle.cta_laws.proofs.Tests.{bool_cases, not_next}
 use Rattle.cta_laws.proofs.OpenMounts.{AllUpTo, opens_up_to, open_older}
 use Rattle.cta_laws.proofs.OnceLaw.{same_job_eq}
@@ -40,11 +42,6 @@ moments_never_fall site (e ∷ newer) h legal = moment_step site (newer ++ h) e 
 pub bounded_weight : History → ℕ
 bounded_weight [] = 0
 bounded_weight (e ∷ h) = (if may_be_refused_for_weight e.ask then weight_of_entry e.ask e.answer else 0) + bounded_weight h
-
--- how many entries are of asks that are never refused for the weight
-pub unbounded : History → ℕ
-unbounded [] = 0
-unbounded (e ∷ h) = (if may_be_refused_for_weight e.ask then 0 else 1) + unbounded h
 
 pub bounded_le : (h : History) → bounded_weight h ≤ weight_of h
 unfolding bounded_weight
@@ -116,27 +113,6 @@ owed h m = length (claimed_items h m) + one_if (is_open h m)
 
 -- ---- what an entry does to the items claimed
 
-pub filter_le : {A : Type 0} (test : A → Bool) (xs : List A) → length (filter test xs) ≤ length xs
-filter_le test [] = omega arith
-filter_le test (x ∷ xs) = elim (test x) as (λ b. length (if b then x ∷ filter test xs else filter test xs) ≤ length (x ∷ xs)) [ true ↦ omega (arith, filter_le test xs) | false ↦ omega (arith, filter_le test xs) ]
-
--- a job that is claimed and named is taken out
-pub without_less : (js : List Job) (items : List Item) (j : Job) → has_job j js ≡ true → has_job j (item_jobs items) ≡ true → length (without_jobs js items) + 1 ≤ length items
-without_less js [] j named there = absurd (cc)
-without_less js (i ∷ items) j named there =
-    elim (bool_cases (same_job j i.job)) [
-      | inl hit ↦
-          (let same : j ≡ i.job = same_job_eq j i.job hit in
-          let out : has_job i.job js ≡ true = subst (λ (x : Job). has_job x js ≡ true) same named in
-          rw out (omega (arith, filter_le (λ (x : Item). not (has_job x.job js)) items)))
-      | inr miss ↦
-          (let rest : length (without_jobs js items) + 1 ≤ length items = without_less js items j named (rw miss at there) in
-          elim (not (has_job i.job js)) as (λ b. length (if b then i ∷ without_jobs js items else without_jobs js items) + 1 ≤ length (i ∷ items)) [ true ↦ omega arith | false ↦ omega arith ])
-    ]
-
-pub job_self : (j : Job) → same_job j j ≡ true
-job_self j = rw (eq-eqb j.birth j.birth refl, eq-eqb j.file j.file refl, eq-eqb j.copy j.copy refl) refl
-
 pub has_first : (j : Job) (js : List Job) → has_job j (j ∷ js) ≡ true
 has_first j js = rw (job_self j) refl
 
@@ -191,18 +167,18 @@ pub if_same : (b : Bool) (xs ys : List Item) → b ≡ false → length (if b th
 if_same true xs ys e = absurd (cc)
 if_same false xs ys e = refl
 
-pub less_by : (h : History) (k i : ℕ) (js : List Job) → length (without_jobs js (claimed_items h i)) + 1 ≤ length (claimed_items h i) → k ≡ i → length (if k == i then without_jobs js (claimed_items h i) else claimed_items h i) + 1 ≤ length (claimed_items h i)
-less_by h k i js less e = rw (eq-eqb k i e) less
+pub less_by : (h : History) (k i n : ℕ) (js : List Job) → length (without_jobs js (claimed_items h i)) + n ≤ length (claimed_items h i) → k ≡ i → length (if k == i then without_jobs js (claimed_items h i) else claimed_items h i) + n ≤ length (claimed_items h i)
+less_by h k i n js less e = rw (eq-eqb k i e) less
 
--- an ask that resolves a job of an open mount
-pub resolves : (h : History) (g : ℕ → ℕ) (i : ℕ) (js : List Job) → is_open h i ≡ true → length (without_jobs js (claimed_items h i)) + 1 ≤ length (claimed_items h i) → ((m : ℕ) → g m ≡ length (if i == m then without_jobs js (claimed_items h m) else claimed_items h m) + one_if (has_number m (open_mounts h))) → sum_to g (length h) + 1 ≤ sum_to (owed h) (length h)
+-- an ask that resolves n jobs of an open mount
+pub resolves : (h : History) (g : ℕ → ℕ) (i n : ℕ) (js : List Job) → is_open h i ≡ true → length (without_jobs js (claimed_items h i)) + n ≤ length (claimed_items h i) → ((m : ℕ) → g m ≡ length (if i == m then without_jobs js (claimed_items h m) else claimed_items h m) + one_if (has_number m (open_mounts h))) → sum_to g (length h) + n ≤ sum_to (owed h) (length h)
 unfolding owed
-resolves h g i js op less is =
+resolves h g i n js op less is =
     let low : i ≤ length h = open_older h i op in
-    let one : sum_to g (length h) + 1 ≤ sum_to (owed h) (length h) + 0 =
-    sum_one g (owed h) (length h) i 0 1 low
+    let one : sum_to g (length h) + n ≤ sum_to (owed h) (length h) + 0 =
+    sum_one g (owed h) (length h) i 0 n low
     (λ m q miss. rw (is m, if_same (i == m) (without_jobs js (claimed_items h m)) (claimed_items h m) miss) (omega arith))
-    (rw (is i) (omega (arith, less_by h i i js less refl))) in
+    (rw (is i) (omega (arith, less_by h i i n js less refl))) in
     omega arith
 
 pub resolved_new : (site : Site) (h : History) → IsLegal site h → (g : ℕ → ℕ) (i : ℕ) (js : List Job) → is_open h i ≡ true → ((m : ℕ) → g m ≡ length (if i == m then without_jobs js (claimed_items h m) else claimed_items h m) + one_if (has_number m (open_mounts h))) → g (suc (length h)) ≡ 0
@@ -260,15 +236,17 @@ filtered_none i m ms none =
 pub Total : History → Ask → Answer → ℕ
 Total h k a = sum_to (owed_after h k a) (length h) + owed_after h k a (suc (length h))
 
+-- how much of what was owed an ask settles: each item of a Flushed, and one job or the End
 pub spent : Ask → ℕ
+spent (ask.Flushed m items) = length items.items
 spent k = if may_be_refused_for_weight k then 0 else 1
 
 pub gained : Ask → Answer → ℕ
 gained k a = if may_be_refused_for_weight k then weight_of_entry k a else 0
 
-pub resolved : (site : Site) (h : History) → IsLegal site h → (g : ℕ → ℕ) (i : ℕ) (js : List Job) → is_open h i ≡ true → length (without_jobs js (claimed_items h i)) + 1 ≤ length (claimed_items h i) → ((m : ℕ) → g m ≡ length (if i == m then without_jobs js (claimed_items h m) else claimed_items h m) + one_if (has_number m (open_mounts h))) → 1 + (sum_to g (length h) + g (suc (length h))) ≤ sum_to (owed h) (length h) + 0
-resolved site h legal g i js op less is =
-    let most : sum_to g (length h) + 1 ≤ sum_to (owed h) (length h) = resolves h g i js op less is in
+pub resolved : (site : Site) (h : History) → IsLegal site h → (g : ℕ → ℕ) (i n : ℕ) (js : List Job) → is_open h i ≡ true → length (without_jobs js (claimed_items h i)) + n ≤ length (claimed_items h i) → ((m : ℕ) → g m ≡ length (if i == m then without_jobs js (claimed_items h m) else claimed_items h m) + one_if (has_number m (open_mounts h))) → n + (sum_to g (length h) + g (suc (length h))) ≤ sum_to (owed h) (length h) + 0
+resolved site h legal g i n js op less is =
+    let most : sum_to g (length h) + n ≤ sum_to (owed h) (length h) = resolves h g i n js op less is in
     let new : g (suc (length h)) ≡ 0 = resolved_new site h legal g i js op is in
     omega arith
 
@@ -282,18 +260,23 @@ pub step : (site : Site) (h : History) → IsLegal site h → (t : ℕ) (k : Ask
 unfolding Total spent gained owed owed_after one_if
 step site h legal t (ask.Flushed i items) a is y fit =
     let known : (is_known h i (item_jobs items.items) ≡ true) × (is_last_batch (last_batch h i) items.items ≡ true) = flushed_known site h t i items a is y in
-    let some : 1 ≤ length items.items = flushed_some items.items (last_batch h i) known.1 (λ xs q. last_some site h legal i xs q) in
-    let less : (is_open h i ≡ true) × (length (without_jobs (item_jobs items.items) (claimed_items h i)) + 1 ≤ length (claimed_items h i)) = known_less h i (item_jobs items.items) known.0 (rw jobs_length some) in
-    resolved site h legal (owed_after h (ask.Flushed i items) a) i (item_jobs items.items) less.0 less.1 (λ m. refl)
+    let parts = and_parts (is_open h i) _ known.0 in
+    let named = and_parts (claims_all h i (item_jobs items.items)) _ parts.1 in
+    let less : length (without_jobs (item_jobs items.items) (claimed_items h i)) + length (item_jobs items.items) ≤ length (claimed_items h i) = without_many (item_jobs items.items) (claimed_items h i) (not_named (names_twice (item_jobs items.items)) named.1) named.0 in
+    resolved site h legal (owed_after h (ask.Flushed i items) a) i (length items.items) (item_jobs items.items) parts.0 (subst (λ (n : ℕ). length (without_jobs (item_jobs items.items) (claimed_items h i)) + n ≤ length (claimed_items h i)) (jobs_length items.items) less) (λ m. refl)
+  where
+    not_named : (b : Bool) → not b ≡ true → b ≡ false
+    not_named true e = absurd (cc)
+    not_named false e = refl
 step site h legal t (ask.Recalled i job) a is y fit =
     let known : is_known h i (job ∷ []) ≡ true = not_unknown _ _ a is y in
     let less : (is_open h i ≡ true) × (length (without_jobs (job ∷ []) (claimed_items h i)) + 1 ≤ length (claimed_items h i)) = known_less h i (job ∷ []) known (omega arith) in
-    resolved site h legal (owed_after h (ask.Recalled i job) a) i (job ∷ []) less.0 less.1 (λ m. refl)
+    resolved site h legal (owed_after h (ask.Recalled i job) a) i 1 (job ∷ []) less.0 less.1 (λ m. refl)
 step site h legal t (ask.Failed i f charged returned) a is y fit =
     let js : List Job = charged.items ++ returned.items in
     let known : is_known h i (charged.items ++ returned.items) ≡ true = not_unknown _ answer.Done a is y in
     let less : (is_open h i ≡ true) × (length (without_jobs (charged.items ++ returned.items) (claimed_items h i)) + 1 ≤ length (claimed_items h i)) = known_less h i (charged.items ++ returned.items) known (omega (arith, fit.1, length-append charged.items returned.items)) in
-    resolved site h legal (owed_after h (ask.Failed i f charged returned) a) i (charged.items ++ returned.items) less.0 less.1 (λ m. refl)
+    resolved site h legal (owed_after h (ask.Failed i f charged returned) a) i 1 (charged.items ++ returned.items) less.0 less.1 (λ m. refl)
 step site h legal t (ask.End i f) a is y fit =
     let all : is_open h i && is_empty (claimed_items h i) ≡ true = not_unknown _ answer.Done a is y in
     let op : is_open h i ≡ true = (and_parts (is_open h i) _ all).0 in
@@ -324,18 +307,48 @@ step site h legal t k a is y fit =
     let new : owed_after h k a (suc (length h)) ≡ 0 = rw (claimed_new site h legal (suc (length h)) (omega arith), open_new h) refl in
     omega arith
 
-pub owes : (site : Site) (h : History) → IsLegal site h → unbounded h + sum_to (owed h) (length h) ≤ bounded_weight h
-unfolding Total spent gained owed owed_after one_if sum_to unbounded bounded_weight
+-- what all entries have settled
+pub settled : History → ℕ
+settled [] = 0
+settled (e ∷ h) = spent e.ask + settled h
+
+pub owes : (site : Site) (h : History) → IsLegal site h → settled h + sum_to (owed h) (length h) ≤ bounded_weight h
+unfolding Total gained owed owed_after one_if sum_to settled bounded_weight
 owes site [] legal = omega arith
 owes site (e ∷ h) legal =
-    let before : unbounded h + sum_to (owed h) (length h) ≤ bounded_weight h = owes site h legal.0 in
+    let before : settled h + sum_to (owed h) (length h) ≤ bounded_weight h = owes site h legal.0 in
     let now : spent e.ask + Total h e.ask e.answer ≤ sum_to (owed h) (length h) + gained e.ask e.answer = step site h legal.0 e.at e.ask e.answer legal.1.answered legal.1.accepted legal.1.fit in
     omega arith
 
-pub length_le : (h : History) → length h ≤ unbounded h + bounded_weight h
-unfolding unbounded bounded_weight
-length_le [] = omega arith
-length_le (e ∷ h) = elim (may_be_refused_for_weight e.ask) as (λ b. length (e ∷ h) ≤ ((if b then 0 else 1) + unbounded h) + ((if b then weight_of_entry e.ask e.answer else 0) + bounded_weight h)) [ true ↦ omega (arith, length_le h) | false ↦ omega (arith, length_le h) ]
+-- an entry is settled, or weighs something
+settles : (site : Site) (h : History) → IsLegal site h → (t : ℕ) (k : Ask) (a : Answer) → a ≡ answer_of site h t k → is_accepted a ≡ true → 1 ≤ spent k + (if may_be_refused_for_weight k then weight_of_entry k a else 0)
+unfolding spent
+settles site h legal t (ask.Flushed m items) a is y =
+    let known : (is_known h m (item_jobs items.items) ≡ true) × (is_last_batch (last_batch h m) items.items ≡ true) = flushed_known site h t m items a is y in
+    let some : 1 ≤ length items.items = flushed_some items.items (last_batch h m) known.1 (λ xs q. last_some site h legal m xs q) in
+    omega arith
+settles site h legal t k a is y = omega arith
+
+pub length_le : (site : Site) (h : History) → IsLegal site h → length h ≤ settled h + bounded_weight h
+unfolding settled bounded_weight
+length_le site [] legal = omega arith
+length_le site (e ∷ h) legal = omega (arith, length_le site h legal.0, settles site h legal.0 e.at e.ask e.answer legal.1.answered legal.1.accepted)
 
 pub stays_short : StaysShort
-stays_short site h legal = omega (arith, length_le h, owes site h legal, bounded_all site h legal)
+stays_short site h legal = omega (arith, length_le site h legal, owes site h legal, bounded_all site h legal)
+
+-- ---- the items on a tape
+
+items_settled_by : (k : Ask) (v w : ℕ) (before : List Item) → length (items_after k v w before) ≤ length before + spent k
+unfolding spent
+items_settled_by (ask.Flushed m items) v w before = elim (w == v) as (λ b. length (if b then before ++ items.items else before) ≤ length before + length items.items) [ true ↦ omega (arith, length-append before items.items) | false ↦ omega arith ]
+items_settled_by (ask.Reclaim who u) v w before = elim (u == v) as (λ b. length (if b then [] else before) ≤ length before + 0) [ true ↦ omega arith | false ↦ omega arith ]
+items_settled_by k v w before = omega arith
+
+pub items_settled : (h : History) (v : ℕ) → length (tape_items h v) ≤ settled h
+unfolding settled
+items_settled [] v = omega arith
+items_settled (e ∷ h) v = omega (arith, items_settled h v, items_settled_by e.ask v (tape_of_mount h (asked_mount e.ask)) (tape_items h v))
+
+pub fseqs_are_low : FseqsAreLow
+fseqs_are_low site h legal v = omega (arith, items_settled h v, owes site h legal, bounded_all site h legal)

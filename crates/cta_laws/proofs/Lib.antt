@@ -37,3 +37,11 @@ pub mod JobFiles
 pub mod RecalledCopy
 pub mod Ranges
 pub mod Requests
+pub mod FlushedNumbers
+pub mod TapeItems
+pub mod CopyLaw
+pub mod ItemLaw
+pub mod JobLists
+pub mod BatchLaw
+pub mod BatchOrder
+pub mod PutLaw

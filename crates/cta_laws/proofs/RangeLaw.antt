@@ -28,7 +28,8 @@ use Rattle.cta_model.specs.Legal.{IsLegal}
 use Rattle.cta_laws.proofs.Tests.{bool_cases, or_cases}
 use Rattle.cta_laws.proofs.Claims.{AllOf, all_append, all_mono, all_pass}
 use Rattle.cta_laws.proofs.Ranges.{all_map}
-use Rattle.cta_laws.proofs.Accepted.{AnswerIs, answer_is}
+use Rattle.cta_laws.proofs.Accepted.{answer_is}
+use Rattle.cta_laws.specs.Asks.{AnswerIs}
 use Rattle.cta_laws.proofs.FlushedLaw.{flushed_done}
 use Rattle.cta_laws.proofs.OnceLaw.{birth_in}
 use Rattle.cta_laws.proofs.PlaceLaw.{named_within, path_older, live_place, place_cases}

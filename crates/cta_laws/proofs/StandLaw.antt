@@ -23,7 +23,7 @@ use Rattle.cta_laws.specs.Jobs.{count_job}
 use Rattle.cta_laws.proofs.Tests.{bool_cases, or_left, or_right}
 use Rattle.cta_laws.proofs.OnceLaw.{same_job_eq, birth_in, goes_on_ended}
 use Rattle.cta_laws.proofs.EndLaw.{live_before, job_stays_ended}
-use Rattle.cta_laws.proofs.LengthLaw.{job_self}
+use Rattle.cta_laws.proofs.JobLists.{job_self}
 use Rattle.cta_laws.proofs.RangeLaw.{InRange, job_range}
 
 -- ---- the mount that claims a job

@@ -30,7 +30,7 @@ use Rattle.cta_laws.proofs.OpenMounts.{AllUpTo, opens_up_to}
 use Rattle.cta_laws.proofs.OnceLaw.{same_job_eq}
 use Rattle.cta_laws.proofs.Claims.{AllOf, ItemBelow, Below, all_append, all_filter, all_mono, insert_all, IsBatch, claim_is_batch, claim_all, queue_below}
 use Rattle.cta_laws.proofs.FseqLaw.{any_filter}
-use Rattle.cta_laws.proofs.LengthLaw.{job_self}
+use Rattle.cta_laws.proofs.JobLists.{job_self, or_none, still_there, without_twice}
 
 -- ---- sums over lists
 
@@ -225,28 +225,6 @@ without_one h j (i ∷ items) all there =
           (let rest : total size_in (without_jobs (j ∷ []) items) + size_of h j.file ≤ total size_in items = without_one h j items all.1 (rw miss at there) in
           elim (bool_cases (has_job i.job (j ∷ []))) [ inl out ↦ rw out (omega arith) | inr stays ↦ rw stays (omega arith) ])
     ]
-
-pub without_twice : (j : Job) (js : List Job) (items : List Item) → without_jobs (j ∷ js) items ≡ without_jobs (j ∷ []) (without_jobs js items)
-without_twice j js [] = refl
-without_twice j js (i ∷ items) =
-    elim (bool_cases (has_job i.job js)) [
-      | inl out ↦ elim (bool_cases (same_job i.job j)) [ inl hit ↦ rw (out, hit) (without_twice j js items) | inr miss ↦ rw (out, miss) (without_twice j js items) ]
-      | inr stays ↦ elim (bool_cases (same_job i.job j)) [ inl hit ↦ rw (stays, hit) (without_twice j js items) | inr miss ↦ rw (stays, miss) (ap (λ (xs : List Item). i ∷ xs) (without_twice j js items)) ]
-    ]
-
-pub still_there : (j : Job) (js : List Job) (items : List Item) → has_job j js ≡ false → has_job j (item_jobs items) ≡ true → has_job j (item_jobs (without_jobs js items)) ≡ true
-still_there j js [] none there = absurd (cc)
-still_there j js (i ∷ items) none there =
-    elim (bool_cases (same_job j i.job)) [
-      | inl hit ↦ (let stays : has_job i.job js ≡ false = subst (λ (x : Job). has_job x js ≡ false) (same_job_eq j i.job hit) none in rw stays (or_left (same_job j i.job) _ hit))
-      | inr miss ↦
-          (let rest : has_job j (item_jobs (without_jobs js items)) ≡ true = still_there j js items none (rw miss at there) in
-          elim (bool_cases (has_job i.job js)) [ inl out ↦ rw out rest | inr stays ↦ rw stays (or_right (same_job j i.job) _ rest) ])
-    ]
-
-pub or_none : (a b : Bool) → (a || b) ≡ false → (a ≡ false) × (b ≡ false)
-or_none true b e = absurd (cc)
-or_none false b e = (refl, e)
 
 -- jobs that a mount claims, none twice, take their sizes out
 pub without_all : (h : History) (m : ℕ) (js : List Job) → AllOf (IsOfFile h) (claimed_items h m) → claims_all h m js ≡ true → names_twice js ≡ false → total size_in (without_jobs js (claimed_items h m)) + total (file_size h) js ≤ total size_in (claimed_items h m)

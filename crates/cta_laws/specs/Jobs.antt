@@ -4,13 +4,14 @@ use Rattle.cta_site.specs.declared.site.Site.{Site}
 use Rattle.cta_site.specs.ValidSite.{IsValidSite}
 use Rattle.cta_model.specs.declared.entries.Entry.{Entry}
 use Rattle.cta_model.specs.declared.asks.Job.{Job}
-use Rattle.cta_model.specs.History.{History}
+use Rattle.cta_model.specs.History.{History, entry_of}
 use Rattle.cta_model.specs.Mounts.{mount_of, is_open, claimer_of, same_job, has_job, claim_names, claims}
 use Rattle.cta_model.specs.declared.asks.Direction.{Direction}
 use Rattle.cta_model.specs.declared.asks.Who.{Who}
+use Rattle.cta_model.specs.declared.asks.Ask.{Ask}
 use Rattle.cta_model.specs.declared.asks.Ask.TheVariants as ask
 use Rattle.cta_model.specs.declared.states.Mount.{Mount}
-use Rattle.cta_model.specs.Files.{is_live}
+use Rattle.cta_model.specs.Files.{is_live, path_of}
 use Rattle.cta_model.specs.Buffer.{is_resident}
 use Rattle.cta_model.specs.Recalls.{live_recall}
 use Rattle.cta_laws.specs.Claims.{claimer_after}
@@ -97,3 +98,16 @@ abbrev pub NoBirthMeetsJob : Type 0
 NoBirthMeetsJob =
     (site : Site) (h : History) (e : Entry) → IsLegal site (e ∷ h) → ((who : Who) (v : ℕ) → e.ask ≡ ask.Repack who v → ⊥)
     → (f c : ℕ) → bears_archive site h e.ask e.answer f (suc c) ≡ true → archive_birth site h f (suc c) ≡ None
+
+-- an ask is the Put of this path
+abbrev pub IsPutOf : List ℕ → Ask → Type 0
+IsPutOf p (ask.Put who path sum) = path ≡ p
+IsPutOf p _ = ⊥
+
+-- the entry of this number is a Put of this path
+abbrev pub HasPut : History → ℕ → List ℕ → Type 0
+HasPut h f p = (e : Entry) × (entry_of h f ≡ Some e) × IsPutOf p e.ask
+
+-- in a legal history the file of a live job has its Put
+abbrev pub JobFileHasPut : Type 0
+JobFileHasPut = (site : Site) (h : History) → IsLegal site h → (j : Job) → is_live_job site h j ≡ true → HasPut h j.file (path_of h j.file)

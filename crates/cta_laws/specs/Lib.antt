@@ -1,3 +1,4 @@
+pub mod Asks
 pub mod Localities
 pub mod Recalls
 pub mod Mounts

@@ -1,5 +1,5 @@
 // Laws of jobs.
-ghost use Rattle.cta_laws.specs.Jobs.{ArchiveIsResident, ArchiveKeyIsPool, ClaimedOnce, ClaimerMoves, ClaimsGoTheirWay, EndsForGood, IsQueuedOrClaimed, JobFileIsLive, NoBirthMeetsJob, NoClaimAfterEnd, RecallIsAway, RecallKeyIsTape};
+ghost use Rattle.cta_laws.specs.Jobs.{ArchiveIsResident, ArchiveKeyIsPool, ClaimedOnce, ClaimerMoves, ClaimsGoTheirWay, EndsForGood, IsQueuedOrClaimed, JobFileHasPut, JobFileIsLive, NoBirthMeetsJob, NoClaimAfterEnd, RecallIsAway, RecallKeyIsTape};
 
 use cta_site::numbers_are_known;
 
@@ -64,4 +64,9 @@ pub fn job_file_is_live()
 /// Where an entry that is no Repack bears an archive job of a copy, the copy had no live one. This project's own.
 pub fn no_birth_meets_job()
     ensures { NoBirthMeetsJob }
+{}
+
+/// The file of a live job has its Put. This project's own.
+pub fn job_file_has_put()
+    ensures { JobFileHasPut }
 {}
