@@ -45,3 +45,4 @@ pub mod JobLists
 pub mod BatchLaw
 pub mod BatchOrder
 pub mod PutLaw
+pub mod OnePlaceLaw

@@ -3,6 +3,7 @@ use Rattle.std.specs.Prelude.{ℕ, ◌+◌, ◌≡◌, ◌<◌, ◌≤◌, lengt
 use Rattle.std.specs.List.{list_any, AllByRecursion}
 use Rattle.cta_site.specs.declared.site.Site.{Site}
 use Rattle.cta_site.specs.Listed.{Listed}
+use Rattle.cta_site.specs.ValidSite.{IsValidSite}
 use Rattle.cta_model.specs.declared.entries.Entry.{Entry}
 use Rattle.cta_model.specs.declared.asks.Ask.{Ask}
 use Rattle.cta_model.specs.declared.asks.Ask.TheVariants as ask
@@ -104,3 +105,9 @@ abbrev pub BatchesAreRising : Type 0
 BatchesAreRising =
     (site : Site) (h : History) (e : Entry) → IsLegal site (e ∷ h) → (m : ℕ) (items : Listed Item) (evicted : Listed ℕ) → e.ask ≡ ask.Claim m
     → e.answer ≡ answer.Batch items evicted → AreRising items.items
+
+-- in a legal history of a valid site a file has at most one place on a tape
+abbrev pub OnePlaceOnTape : Type 0
+OnePlaceOnTape =
+    (site : Site) (h : History) → IsValidSite site → IsLegal site h → (f c d : ℕ) (p q : Place) → place_of h f c ≡ Some p → place_of h f d ≡ Some q → p.tape ≡ q.tape
+    → c ≡ d

@@ -27,7 +27,7 @@ pub use mounts::{
     claims_nothing_after_end, keeps_quota, mounts_choice, open_mount_stays, tapes_are_mounted_once,
 };
 pub use places::{
-    batches_are_rising, flushed_in_turn, items_are_of_files, items_in_turn, live_items_in_order, no_copy_is_lost,
+    batches_are_rising, flushed_in_turn, items_are_of_files, items_in_turn, live_items_in_order, no_copy_is_lost, one_place_on_tape,
     places_are_apart, places_below, places_on_tape, places_stay,
 };
 pub use recalls::{completes_once, recalled_is_resident, stale_after_end, stays_resident};

@@ -1,5 +1,7 @@
 // Laws of places.
-ghost use Rattle.cta_laws.specs.Places.{BatchesAreRising, FlushedInTurn, ItemsAreOfFiles, ItemsInTurn, LiveItemsInOrder, NoCopyIsLost, PlacesAreApart, PlacesBelow, PlacesOnTape, PlacesStay};
+ghost use Rattle.cta_laws.specs.Places.{BatchesAreRising, FlushedInTurn, ItemsAreOfFiles, ItemsInTurn, LiveItemsInOrder, NoCopyIsLost, OnePlaceOnTape, PlacesAreApart, PlacesBelow, PlacesOnTape, PlacesStay};
+
+use cta_site::{numbers_are_known, routes_go_apart};
 
 /// A live file that has a place of a copy has one as long as it is live. This project's own.
 pub fn places_stay()
@@ -53,3 +55,11 @@ pub fn live_items_in_order()
 pub fn batches_are_rising()
     ensures { BatchesAreRising }
 {}
+
+/// A file has at most one place on a tape, where the site is valid. This project's own.
+pub fn one_place_on_tape()
+    ensures { OnePlaceOnTape }
+{
+    numbers_are_known();
+    routes_go_apart();
+}

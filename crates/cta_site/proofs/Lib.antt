@@ -17,3 +17,4 @@ pub mod Counts
 pub mod Fronts
 pub mod Routed
 pub mod OneOrder
+pub mod Apart

@@ -31,3 +31,7 @@ PoliciesAreKnown site = (requester group : List ℕ) → policy_of site requeste
 -- each copy of a class has a route, which goes to a pool of the site
 abbrev pub CopiesAreRouted : Site → Type 0
 CopiesAreRouted site = (class copy : ℕ) → class < length site.classes.items → 1 ≤ copy → copy ≤ copies_of_class site (Some class) → HasRoute site class copy × (pool_of site class copy < length site.pools.items)
+
+-- two copies of a class whose routes go to one pool are the same copy
+abbrev pub RoutesGoApart : Site → Type 0
+RoutesGoApart site = (class c d : ℕ) → HasRoute site class c → HasRoute site class d → pool_of site class c ≡ pool_of site class d → c ≡ d

@@ -2,7 +2,7 @@
 ghost use Rattle.cta_site.specs.declared.site.Site.{Site};
 ghost use Rattle.std.specs.Prelude.{◌≡◌, None};
 ghost use Rattle.cta_site.specs.Faults.{first_fault};
-ghost use Rattle.cta_site.specs.Laws.{ClassesAreKnown, CopiesAreRouted, PoliciesAreKnown};
+ghost use Rattle.cta_site.specs.Laws.{ClassesAreKnown, CopiesAreRouted, PoliciesAreKnown, RoutesGoApart};
 ghost use Rattle.cta_site.specs.Numbering.{IsNumberedFrom};
 ghost use Rattle.cta_site.specs.Sites.{large_site, small_site};
 ghost use Rattle.cta_site.specs.ValidSite.{IsValidSite};
@@ -24,6 +24,11 @@ pub fn numbers_are_known()
     ensures classes { (site : Site) → IsValidSite site → ClassesAreKnown site }
     ensures policies { (site : Site) → IsValidSite site → PoliciesAreKnown site }
     ensures pools { (site : Site) → IsValidSite site → CopiesAreRouted site }
+{}
+
+/// The routes of a class go to different pools. Rule 23 of a site file.
+pub fn routes_go_apart()
+    ensures { (site : Site) → IsValidSite site → RoutesGoApart site }
 {}
 
 /// A site that keeps the rules is numbered in one way. So a site file tells one valid site.
