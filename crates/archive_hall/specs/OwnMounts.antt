@@ -1,37 +1,37 @@
 -- What a drive's pass keeps of the mount that its own Next made.
-use Rattle.std.specs.Prelude.{ℕ, ◌+◌, ◌≡◌, ◌⊎◌, List, [], ◌∷◌, reverse, Some, Result, Ok, Bool, true}
+use Rattle.std.specs.Prelude.{ℕ, ◌≡◌, ◌⊎◌, reverse, Option, Some, Ok, true}
 use mathlib.Core.List.{IsPrefix}
-use Rattle.blob.specs.Records.{TapeRecord}
+use Rattle.blob.specs.Records.{TapeRecords}
 use Rattle.cta_site.specs.declared.site.Site.{Site}
 use Rattle.cta_model.specs.declared.entries.Entry.{Entry}
 use Rattle.cta_model.specs.declared.asks.Ask.TheVariants as ask
 use Rattle.cta_model.specs.declared.asks.Direction.{Direction}
 use Rattle.cta_model.specs.declared.answers.Answer.TheVariants as answer
+use Rattle.cta_model.specs.declared.hands.Hand.{Hand}
+use Rattle.cta_model.specs.declared.hands.Hand.TheVariants as hand
 use Rattle.cta_model.specs.declared.states.Mount.{Mount}
 use Rattle.cta_model.specs.Mounts.{mount_of, is_open}
+use Rattle.cta_model.specs.Media.{IsTrueWhereTold}
 use Rattle.cta_laws.specs.Mounts.{IsMountKept}
 use Rattle.turn_hall.specs.declared.view.View.{View}
 use Rattle.turn_hall.specs.Calls.{merged}
 use Rattle.turn_hall.specs.Promises.{Turned, Opened}
-use Rattle.archive_turns.specs.declared.calls.Hand.{Hand}
-use Rattle.archive_turns.specs.declared.calls.Hand.TheVariants as hand
 use Rattle.archive_turns.specs.declared.calls.ArchiveCall.{ArchiveCall}
 use Rattle.archive_turns.specs.declared.calls.ArchiveCall.TheVariants as call
 use Rattle.archive_turns.specs.declared.calls.ArchiveBack.{ArchiveBack}
 use Rattle.archive_turns.specs.declared.calls.ArchiveBack.TheVariants as back
-use Rattle.archive_turns.specs.Media.{IsTrueIfTold}
 use Rattle.archive_turns.specs.Topics.{topic_of}
-use Rattle.archive_turns.specs.Plays.{call_adds, call_asks}
+use Rattle.archive_turns.specs.Plays.{call_adds}
 use Rattle.archive_hall.specs.InOrder.{IsLegalInOrder, PlaysInOrder}
 
-module _ {M : Type 0} (tells : M → Bool) (safe pending : M → List TapeRecord) where
+module _ {M : Type 0} (told : M → Option TapeRecords) where
   -- what a pass of an archive's hall knows
   abbrev pub Known : Type 0
   Known = View Site Entry (ArchiveCall M) (ArchiveBack M)
 
   -- a call was played in one turn of an archive's hall
   abbrev pub IsTurn : Site → Known → ArchiveCall M → ArchiveBack M → Known → Type 0
-  IsTurn site v c b w = Turned (IsLegalInOrder site) (PlaysInOrder tells safe pending site) topic_of call_adds v c b w
+  IsTurn site v c b w = Turned (IsLegalInOrder site) (PlaysInOrder told site) topic_of call_adds v c b w
 
   -- a mount is a pass's own, as it has seen it: its Next is among the pass's calls, and it is open, of this drive and tape, and goes this way
   pub record IsOwnMount (v : Known) (m : ℕ) (mount : Mount) : Type 0 where
@@ -44,7 +44,7 @@ module _ {M : Type 0} (tells : M → Bool) (safe pending : M → List TapeRecord
   NextOpens =
       (site : Site) (v w : Known) (at d m : ℕ) (way : Direction) (tape : ℕ) (in_hand : Hand M) (x : M)
       → IsTurn site v (call.Ask at (ask.Next d) in_hand) (back.Ask (Ok (answer.Mounted m way tape, hand.Medium x))) w
-      → IsOwnMount w m (record { drive = d; direction = way; tape = tape }) × IsTrueIfTold tells safe pending (reverse w.seen) tape x
+      → IsOwnMount w m (record { drive = d; direction = way; tape = tape }) × IsTrueWhereTold told (reverse w.seen) tape x
 
   -- the Next of a mount stays among a pass's own calls while the pass takes turns
   abbrev pub OwnOverTurns : Type 0

@@ -12,8 +12,7 @@ use crate::crew::{Put, Serves};
 use crate::order::turns_in_order;
 use archive::Archive;
 use archive_turns::{ArchiveBack, ArchiveCall, Hand};
-use blob::Told;
-use cta_model::{Answer, Ask, Entry, Look, NoMemory};
+use cta_model::{Answer, Ask, Entry, Look, NoMemory, Told};
 use cta_site::ValidSite;
 use std::alloc::Global;
 use std::marker::PhantomData;
@@ -54,7 +53,7 @@ impl<M: Told + Drop> Desk<M> {
     fn ask(&mut self, at: u64, ask: Ask, hand: Hand<M>) -> ArchiveBack<M>
         requires at { at ≤ greatest_moment }
         requires built { is_built ask ≡ true }
-        ensures returns { Returns M.tells M.safe M.pending self.old.archive.site self.old.archive.history (ArchiveCall.Ask at ask hand) result self.new.archive.history }
+        ensures returns { Returns M.told self.old.archive.site self.old.archive.history (ArchiveCall.Ask at ask hand) result self.new.archive.history }
         ensures same { self.new.archive.site ≡ self.old.archive.site }
     {
         match self.archive.ask(self.alloc, at, ask) {
@@ -73,7 +72,7 @@ impl<M: Told + Drop> Desk<M> {
     fn look(&self, at: u64, look: &Look) -> ArchiveBack<M>
         requires at { at ≤ greatest_moment }
         requires built { is_built_look look.now ≡ true }
-        ensures { Returns M.tells M.safe M.pending self.now.archive.site self.now.archive.history (ArchiveCall.Look at look.now) result self.now.archive.history }
+        ensures { Returns M.told self.now.archive.site self.now.archive.history (ArchiveCall.Look at look.now) result self.now.archive.history }
     {
         match self.archive.look(self.alloc, at, look) {
             Ok(answer) => ArchiveBack::Look(Ok((answer, Hand::Nothing))),
@@ -97,9 +96,9 @@ impl<M: Told + Drop> Keeps for Desk<M> {
 
     ghost legal = { IsLegalInOrder };
 
-    ghost can_play = { CanPlayInOrder M.tells M.safe M.pending };
+    ghost can_play = { CanPlayInOrder M.told };
 
-    ghost plays = { PlaysInOrder M.tells M.safe M.pending };
+    ghost plays = { PlaysInOrder M.told };
 
     ghost adds = { call_adds };
 
@@ -107,7 +106,7 @@ impl<M: Told + Drop> Keeps for Desk<M> {
 
     ghost asks = { call_asks };
 
-    ghost fits = { IsFitInOrder M.tells M.safe M.pending };
+    ghost fits = { IsFitInOrder M.told };
 
     fn play(&mut self, call: ArchiveCall<M>) -> ArchiveBack<M> {
         match call {

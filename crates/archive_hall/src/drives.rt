@@ -3,17 +3,17 @@ ghost use Rattle.archive_hall.specs.OwnMounts.{NextOpens, OwnOverTurns, OwnOverJ
 
 use crate::desk::Desk;
 use archive_turns::{entries_name_their_mounts, mount_is_kept};
-use blob::Told;
+use cta_model::Told;
 use turn_hall::topics_stay_opened;
 
 /// A Next that is answered Mounted makes a mount of the pass's own, and hands out a true medium. The mount stays the pass's own over
 /// its turns and its joins, and each later call of the pass is played where that mount is as the pass had seen it, whatever others
 /// called meanwhile.
 pub fn own_mount_stays<M: Told + Drop>()
-    ensures next { NextOpens M.tells M.safe M.pending }
-    ensures turns { OwnOverTurns M.tells M.safe M.pending }
-    ensures joins { OwnOverJoins M.tells M.safe M.pending }
-    ensures stays { OwnMountStays M.tells M.safe M.pending }
+    ensures next { NextOpens M.told }
+    ensures turns { OwnOverTurns M.told }
+    ensures joins { OwnOverJoins M.told }
+    ensures stays { OwnMountStays M.told }
 {
     topics_stay_opened::<Desk<M>>();
     entries_name_their_mounts::<M>();

@@ -4,8 +4,8 @@ ghost use Rattle.turn_hall.specs.Handles.{IsPassOf, seats_in};
 
 use crate::{Desk, Put, both, one_then_other, put_file};
 use archive_turns::{ArchiveBack, ArchiveCall};
-use blob::{Blob, Told};
-use cta_model::{Answer, Locality, Look, Refusal, Who};
+use blob::Blob;
+use cta_model::{Answer, Locality, Look, Refusal, Told, Who};
 use cta_site::{Rows, Text, ValidSite};
 use site_json::read_site;
 use std::alloc::{AllocError, Global};
@@ -22,13 +22,9 @@ const SITE: &str =
 struct Blank;
 
 impl Told for Blank {
-    ghost use Rattle.std.specs.Prelude.{false, []};
+    ghost use Rattle.std.specs.Prelude.{None};
 
-    ghost tells = { λ m. false };
-
-    ghost safe = { λ m. [] };
-
-    ghost pending = { λ m. [] };
+    ghost told = { λ m. None };
 }
 
 fn site_of(alloc: Global) -> Option<ValidSite> {

@@ -6,8 +6,8 @@ use Rattle.cta_model.specs.History.{History}
 use Rattle.cta_model.specs.Files.{is_live}
 use Rattle.cta_model.specs.Mounts.{tape_of_mount}
 use Rattle.cta_model.specs.Places.{place_of, last_flushed}
+use Rattle.cta_model.specs.Media.{IsTrueMedium}
 use Rattle.cta_laws.specs.Mounts.{OpenMountStays, IsMountKept}
-use Rattle.archive_turns.specs.Media.{IsTrueMedium}
 use Rattle.archive_turns.specs.Laws.{MountIsKept, TrueMediumStays}
 use Rattle.archive_turns.proofs.Entries.{sum_stays, live_below}
 use Rattle.archive_turns.proofs.Mounts.{open_from, about_others}
@@ -24,14 +24,14 @@ pub mount_is_kept : OpenMountStays → MountIsKept
 mount_is_kept law site newer h m legal op apart = law site newer h m legal op (about_others m newer (open_from h m op) apart)
 
 pub true_medium_stays : MountIsKept → TrueMediumStays
-true_medium_stays law site newer h m safe pending legal op apart fact =
+true_medium_stays law site newer h m t legal op apart fact =
     let kept : IsMountKept (newer ++ h) h m = law site newer h m legal op apart in
-    let at_old : IsTrueMedium (newer ++ h) (tape_of_mount h m) safe pending =
+    let at_old : IsTrueMedium (newer ++ h) (tape_of_mount h m) t =
     record {
-      in_turn = fact.in_turn;
-      as_many = rw kept.same_items fact.as_many;
-      kept = λ f c p is on.
+      within = fact.within;
+      enough = rw kept.same_items fact.enough;
+      named = λ f c p on is.
           let old : place_of h f c ≡ Some p = kept.old_places f c p on is in
-          rw (sum_stays newer h f (place_below h f c p old)) (fact.kept f c p old on);
+          rw (kept.same_items, sum_stays newer h f (place_below h f c p old)) (fact.named f c p on old);
     } in
-    subst (λ (v : ℕ). IsTrueMedium (newer ++ h) v safe pending) (sym kept.same_tape) at_old
+    subst (λ (v : ℕ). IsTrueMedium (newer ++ h) v t) (sym kept.same_tape) at_old

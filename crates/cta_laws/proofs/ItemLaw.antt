@@ -93,7 +93,7 @@ same_of_files h (x ∷ xs) (y ∷ ys) e all =
     let sum : x.sum ≡ y.sum = same_sum x.sum y.sum (eqb-true _ _ r.0) ((bytes_eq-Decides x.sum.digest y.sum.digest).0 r.1) in
     ((subst (λ (n : ℕ). n ≤ length h) (sym file) all.0.0, sum ∙ all.0.1 ∙ ap (sum_of h) (sym file)), same_of_files h xs ys p.1 all.1)
 
-flushed_of_files : (site : Site) (h : History) → IsLegal site h → (m : ℕ) (items : List Item) (o : Option (List Item)) → last_batch h m ≡ o → is_last_batch o items ≡ true → AllOf (IsOfItsFile h) items
+pub flushed_of_files : (site : Site) (h : History) → IsLegal site h → (m : ℕ) (items : List Item) (o : Option (List Item)) → last_batch h m ≡ o → is_last_batch o items ≡ true → AllOf (IsOfItsFile h) items
 flushed_of_files site h legal m items None last e = absurd (cc)
 flushed_of_files site h legal m items (Some xs) last e = same_of_files h items xs e (last_of_files site h legal m xs last)
 

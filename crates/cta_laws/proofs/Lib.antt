@@ -46,3 +46,4 @@ pub mod BatchLaw
 pub mod BatchOrder
 pub mod PutLaw
 pub mod OnePlaceLaw
+pub mod MediaLaw

@@ -64,7 +64,7 @@ items_in_turn site (e ∷ h) legal v = turn_step site h e legal e.ask refl v (it
 -- ---- places apart
 
 -- an item in turn has one of the fSeqs from s on
-turn_low : (s f c n : ℕ) (items : List Item) → AreInTurn s items → list_any (is_item_of f c n) items ≡ true → s ≤ n
+pub turn_low : (s f c n : ℕ) (items : List Item) → AreInTurn s items → list_any (is_item_of f c n) items ≡ true → s ≤ n
 unfolding AreInTurn
 turn_low s f c n [] turn e = absurd (cc)
 turn_low s f c n (i ∷ items) turn e =

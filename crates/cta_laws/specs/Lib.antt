@@ -9,3 +9,4 @@ pub mod Space
 pub mod Stages
 pub mod Claims
 pub mod Changes
+pub mod Media

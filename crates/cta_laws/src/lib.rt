@@ -7,6 +7,7 @@ mod asks;
 mod jobs;
 mod lengths;
 mod localities;
+mod media;
 mod mounts;
 mod places;
 mod recalls;
@@ -23,6 +24,7 @@ pub use lengths::{
     claims_are_short, flushes_are_short, fseqs_are_low, moments_never_fall, stays_short,
 };
 pub use localities::{no_file_is_lost, tape_is_flushed, told_tape_is_flushed};
+pub use media::{flushed_is_true, mounted_stays_true, shelf_stays_true, true_medium_stays};
 pub use mounts::{
     claims_nothing_after_end, keeps_quota, mounts_choice, open_mount_stays, tapes_are_mounted_once,
 };

@@ -21,6 +21,8 @@ pub mod Localities
 pub mod Answers
 pub mod Reports
 pub mod Looks
+pub mod Media
+pub mod Hands
 pub mod Legal
 pub mod Kept
 pub mod Newest

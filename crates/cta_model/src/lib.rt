@@ -6,13 +6,14 @@ mod answers;
 mod asks;
 mod entries;
 mod examples;
+mod hands;
 mod laws;
 mod reports;
 mod states;
 
 pub use answers::{Answer, Refusal};
 pub use asks::{Ask, Direction, Fate, Fault, Item, Job, Look, Wanted, Who};
-pub use blob::Sum256;
+pub use blob::{Sum256, Told};
 pub use cta_site::{NoMemory, Rows, TapeState, Text};
 pub use entries::{Actor, Entry};
 pub use examples::{
@@ -21,6 +22,7 @@ pub use examples::{
     priority_goes_before_age, put_is_on_disk, queued_copy_keeps_its_file,
     returned_jobs_keep_their_place,
 };
+pub use hands::Hand;
 pub use laws::histories_stay_legal;
 pub use reports::{
     FailedCopy, FileState, ItemState, Locality, PlaceInfo, QueueInfo, RepackInfo, RepackItem,
