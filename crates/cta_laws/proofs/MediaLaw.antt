@@ -155,19 +155,22 @@ flushed_is_true site h e m items t legal ek is long all = record {
       omega (arith, length-append (tape_items h (tape_of_mount h m)) items.items));
   named = λ f c p on there.
       (let low = within_items site (e ∷ h) legal f c (tape_of_mount h m) p on there in
-      let parts = live_place (e ∷ h) f c p there in
-      (low.0, low.1, elim (place_cases c (tape_of_mount h (asked_mount e.ask)) (fseq_after (flushed_in e.ask e.answer) f c None) (last_flushed h f c) p parts.1) [
-        | inl new ↦
-            (let older : f ≤ length h = entry_below site h legal.0 e.at f c e.ask e.answer p.fseq legal.1.answered new.0 in
-            let known = flushed_known site h e.at m items e.answer (legal.1.answered ∙ ap (answer_of site h e.at) ek) legal.1.accepted in
-            let files : AllOf (IsOfItsFile h) items.items = flushed_of_files site h legal.0 m items.items (last_batch h m) refl known.1 in
-            new_on h t e.ask e.answer m f c p.fseq items ek files all new.0 ∙ ap (λ (s : Sum256). Some s) (sym (sum_older e h f older)))
-        | inr old ↦
-            (let older : f ≤ length h = flushed_below site h legal.0 f c p old.1 in
-            let live : is_live h f ≡ true = live_before e h f older parts.0 in
-            let was : place_of h f c ≡ Some p = rw live old.1 in
-            named_before h (e ∷ h) f c (tape_of_mount h m) p t is on was (sum_older e h f older))
-      ]));
+      let parts = live_place (e ∷ h) f c p there in (
+        low.0,
+        low.1,
+        elim (place_cases c (tape_of_mount h (asked_mount e.ask)) (fseq_after (flushed_in e.ask e.answer) f c None) (last_flushed h f c) p parts.1) [
+          | inl new ↦
+              (let older : f ≤ length h = entry_below site h legal.0 e.at f c e.ask e.answer p.fseq legal.1.answered new.0 in
+              let known = flushed_known site h e.at m items e.answer (legal.1.answered ∙ ap (answer_of site h e.at) ek) legal.1.accepted in
+              let files : AllOf (IsOfItsFile h) items.items = flushed_of_files site h legal.0 m items.items (last_batch h m) refl known.1 in
+              new_on h t e.ask e.answer m f c p.fseq items ek files all new.0 ∙ ap (λ (s : Sum256). Some s) (sym (sum_older e h f older)))
+          | inr old ↦
+              (let older : f ≤ length h = flushed_below site h legal.0 f c p old.1 in
+              let live : is_live h f ≡ true = live_before e h f older parts.0 in
+              let was : place_of h f c ≡ Some p = rw live old.1 in
+              named_before h (e ∷ h) f c (tape_of_mount h m) p t is on was (sum_older e h f older))
+        ],
+      ));
 }
   where
     here : (b : Bool) → b ≡ true → (if b then tape_items h (tape_of_mount h m) ++ items.items else tape_items h (tape_of_mount h m)) ≡ tape_items h (tape_of_mount h m) ++ items.items

@@ -28,4 +28,6 @@ pub use reports::{
     FailedCopy, FileState, ItemState, Locality, PlaceInfo, QueueInfo, RepackInfo, RepackItem,
     StageFileInfo, StageInfo, TapeInfo,
 };
-pub use states::{Candidate, Charge, Mount, Place, Recall, RepackCopy, RequestFile, StageFile, Sums};
+pub use states::{
+    Candidate, Charge, Mount, Place, Recall, RepackCopy, RequestFile, StageFile, Sums,
+};

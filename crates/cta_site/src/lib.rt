@@ -43,6 +43,7 @@ pub use site::{
 pub use spelling::{are_address_bytes, is_name};
 pub use text::Text;
 pub use valid_laws::{
-    example_sites_are_valid, numbers_are_known, one_numbering, routes_go_apart, valid_is_well_formed,
+    example_sites_are_valid, numbers_are_known, one_numbering, routes_go_apart,
+    valid_is_well_formed,
 };
 pub use valid_site::ValidSite;
