@@ -1,7 +1,7 @@
 -- One more copy.
 use Rattle.std.specs.Prelude.{ℕ, zero, suc, ◌≡◌, refl, ◌+◌, List, [], ◌∷◌, ◌++◌, Option, Some, None, Bool, true, false, ◌&&◌, ◌||◌, not, filter, filter_map, if◌then◌else◌}
 use Rattle.std.specs.List.{list_all, list_any, range_with_len, cons_option}
-use Rattle.std.proofs.Common.{add-one, ap, ◌∙◌, sym, arith}
+use Rattle.std.proofs.Common.{add-one, ap, ◌∙◌, arith}
 use Rattle.std.proofs.lemmas.List.Elements.{filter-append, filter_map-append}
 use Rattle.std.proofs.lemmas.List.Folds.{list_all-append, list_any-append}
 use Rattle.cta_site.specs.declared.site.Site.{Site}

@@ -7,6 +7,9 @@ ghost use Rattle.cta_model.specs.Newest.{history_in};
 
 use cta_model::{Answer, Ask, Entry};
 
+// A number that no tape has.
+const NO_TAPE: u32 = u32::MAX;
+
 // The entry of this number, from 1, where there is one.
 #[tactic(auto, using(crate::proofs::Numbers::numbers))]
 pub(crate) fn entry_of(entries: &[Entry], number: u32) -> Option<&Entry>
@@ -19,23 +22,23 @@ pub(crate) fn entry_of(entries: &[Entry], number: u32) -> Option<&Entry>
     Some(&entries[number - 1])
 }
 
-// The tape of the mount that an entry made, or 0.
+// The tape of the mount that an entry made, or no tape.
 fn mounted_tape(entry: &Entry) -> u32
     ensures { result ≡ tape_by (mount_in (bare_ask entry.now.ask) (bare_answer entry.now.answer)) }
 {
     match (&entry.ask, &entry.answer) {
         (Ask::Next { .. }, Answer::Mounted { tape, .. }) => *tape,
-        _ => 0,
+        _ => NO_TAPE,
     }
 }
 
-// The tape of the mount of this number, or 0 where there is none.
+// The tape of the mount of this number, or no tape where there is none.
 pub(crate) fn tape_of_mount(entries: &[Entry], mount: u32) -> u32
     ensures { result ≡ tape_of_mount (history_in entries.now) mount }
 {
     match entry_of(entries, mount) {
         Some(entry) => mounted_tape(entry),
-        None => 0,
+        None => NO_TAPE,
     }
 }
 
