@@ -40,7 +40,7 @@ pub fn recall_is_reported()
 /// Two requests for a file wait for one recall; after the first is cancelled, the recall serves the second alone.
 pub fn one_recall_serves_two_requests()
     ensures legal { IsLegal small_buffer_site one_recall_for_two }
-    ensures subscribers { subscribers_of small_buffer_site one_recall_for_two (recall_job 8 1) ≡ 9 ∷ 8 ∷ [] }
+    ensures subscribers { subscribers_of small_buffer_site one_recall_for_two (recall_job 8 1) ≡ 8 ∷ 9 ∷ [] }
     ensures cancelled { look_answer_of small_buffer_site one_recall_for_two 200 (look.StageInfo 8) ≡ answer.Stage (record {
       id = 8;
       created_at = 200;
