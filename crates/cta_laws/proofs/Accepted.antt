@@ -98,7 +98,7 @@ light_is site h t (ask.Repack who v) a e y =
     let p = past refusal.NoTape (nat_le (length site.tapes.items) v) _ a e y in
     let q = past refusal.NotRepacking (not (may_be_repacked (tape_state site h v))) _ a p.1 y in
     let r = past refusal.RepackLive (is_repack_live site h v) _ a q.1 y in
-    (r.1, not_false _ q.0)
+    (r.1, not_false _ q.0, r.0)
 light_is site h t (ask.Retry who paths) a e y = (past refusal.NoFile (list_any (λ p. is_none (live_file h p)) paths.items) _ a e y).1
 
 -- what an accepted ask is answered

@@ -26,7 +26,8 @@ use Rattle.cta_laws.proofs.Tests.{bool_cases}
 use Rattle.cta_laws.proofs.Claims.{IsBatch, claim_is_batch}
 use Rattle.cta_laws.proofs.QuotaLaw.{same_way}
 use Rattle.cta_laws.proofs.Sums.{total, total_append, size_in, size_is, file_size}
-use Rattle.cta_laws.proofs.Loads.{claimed_total, took, gave, if_asked, claimed_step_total}
+use Rattle.cta_laws.proofs.Loads.{took, gave, if_asked, claimed_step_total}
+use Rattle.cta_laws.specs.Claims.{claimed_total}
 
 -- ---- what is taken fits in the room
 

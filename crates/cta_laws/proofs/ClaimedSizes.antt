@@ -21,12 +21,12 @@ use Rattle.cta_laws.proofs.Claims.{claim_is_open}
 use Rattle.cta_laws.proofs.LengthLaw.{claimed_new, not_unknown}
 use Rattle.cta_laws.proofs.PlaceLaw.{flushed_known}
 use Rattle.cta_laws.proofs.Sums.{total, total_is, total_append, total_filter, open_distinct, size_in, size_is, claimed_of_file, file_size}
-use Rattle.cta_laws.proofs.Loads.{claimed_total, known_parts, after_is, claim_others, claim_here}
+use Rattle.cta_laws.proofs.Loads.{known_parts, after_is, claim_others, claim_here}
 use Rattle.cta_model.specs.declared.asks.Ask.TheVariants as ask
 use Rattle.cta_model.specs.declared.answers.Answer.TheVariants as answer
 use Rattle.cta_laws.proofs.Loads.{total_same}
 use Rattle.cta_laws.proofs.ClaimedOnce.{all_exact, claims_once, total_one_exact}
-use Rattle.cta_laws.specs.Claims.{claimed_by, ended_jobs, is_asked, size_of_jobs}
+use Rattle.cta_laws.specs.Claims.{claimed_by, ended_jobs, is_asked, size_of_jobs, claimed_total}
 
 -- what a mount claims, where it passes the test
 unfoldable pub held : (Mount → Bool) → History → ℕ → ℕ

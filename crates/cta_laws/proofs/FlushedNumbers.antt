@@ -6,22 +6,18 @@ use Rattle.std.proofs.lemmas.Bool.{and_parts, and_from, eqb-true, eq-eqb, ne_eqb
 use Rattle.cta_site.specs.declared.site.Site.{Site}
 use Rattle.cta_site.specs.Listed.{Listed}
 use Rattle.cta_site.specs.Lookups.{capacity_of, pool_of_tape}
-use Rattle.cta_model.specs.declared.entries.Entry.{Entry}
 use Rattle.cta_model.specs.declared.asks.Ask.{Ask}
 use Rattle.cta_model.specs.declared.asks.Direction.{Direction}
 use Rattle.cta_model.specs.declared.answers.Answer.{Answer}
-use Rattle.cta_model.specs.declared.asks.Fate.{Fate}
 use Rattle.cta_model.specs.declared.asks.Item.{Item}
 use Rattle.cta_model.specs.declared.asks.Job.{Job}
 use Rattle.cta_model.specs.declared.states.Mount.{Mount}
-use Rattle.cta_model.specs.declared.states.Place.{Place}
 use Rattle.cta_model.specs.History.{History, entry_of, moment_of}
 use Rattle.cta_model.specs.Mounts.{mount_of, mount_by, is_open, tape_of_mount, tape_by, asked_mount, open_mounts, claimed_items, claimed_after, without_jobs, item_jobs, has_job, same_job, last_batch, batch_in, batch_or}
-use Rattle.cta_model.specs.Tapes.{tape_items, items_after, next_fseq, used_bytes, state_after}
-use Rattle.cta_model.specs.Places.{fseq_after, is_copy_of, place_after}
+use Rattle.cta_model.specs.Tapes.{tape_items, items_after, next_fseq, used_bytes}
 use Rattle.cta_model.specs.Queues.{queue_of}
 use Rattle.cta_model.specs.Batches.{taken_of, written_items, batch_of, batch_by}
-use Rattle.cta_model.specs.Answers.{answer_of, is_accepted, is_last_batch, same_items, same_item, claims_all, fate_of}
+use Rattle.cta_model.specs.Answers.{answer_of, is_accepted, is_last_batch, same_items, same_item, claims_all}
 use Rattle.cta_model.specs.Legal.{IsLegal, IsMountOf, IsFit}
 use Rattle.cta_laws.proofs.Tests.{bool_cases, or_left, or_cases, not_next}
 use Rattle.cta_laws.proofs.OpenMounts.{mount_older}
@@ -33,7 +29,6 @@ use Rattle.cta_laws.proofs.FseqLaw.{way_of, was_open, last_older, claim_older}
 use Rattle.cta_laws.proofs.LengthLaw.{last_some}
 use Rattle.cta_laws.proofs.JobLists.{job_self}
 use Rattle.cta_laws.proofs.MountLaw.{other_items, other_claims}
-use Rattle.cta_site.specs.declared.site.TapeState.{TapeState}
 use Rattle.cta_model.specs.declared.asks.Ask.TheVariants as ask
 use Rattle.cta_model.specs.declared.asks.Direction.TheVariants as direction
 use Rattle.cta_model.specs.declared.answers.Answer.TheVariants as answer

@@ -110,7 +110,7 @@ pub named_live : (h : History) (p : List ℕ) (f : ℕ) → live_file h p ≡ So
 named_live h p f is = subst (λ (o : Option ℕ). is_number f o ≡ true) (sym (ap (live_file h) (live_path h p f is) ∙ is)) (eq-eqb f f refl)
 
 -- a failed copy: of a live file, from 1 to the class's copies, never flushed, and with no live job
-abbrev IsFailedCopy : Site → History → Job → Type 0
+abbrev pub IsFailedCopy : Site → History → Job → Type 0
 IsFailedCopy site h j = (is_live h j.file ≡ true) × (was_flushed h j.file j.copy ≡ false) × (1 ≤ j.copy) × (j.copy ≤ copies_of_file site h j.file) × (is_none (archive_birth site h j.file j.copy) ≡ true)
 
 not_and : (a b : Bool) → (not a && b) ≡ true → a ≡ false
@@ -137,7 +137,7 @@ retry_failed site h seen (p ∷ ps) =
       | false ↦ all_append (IsFailedCopy site h) (retried_file site h (live_file h p)) _ (file_failed site h (live_file h p) (λ f is. named_live h p f is)) (retry_failed site h (p ∷ seen) ps)
     ]
 
-copy_failed : (site : Site) (h : History) (f c : ℕ) (js : List Job) → AllOf (IsFailedCopy site h) js → has_copy f c js ≡ true → IsFailedCopy site h (job_of 0 f c)
+pub copy_failed : (site : Site) (h : History) (f c : ℕ) (js : List Job) → AllOf (IsFailedCopy site h) js → has_copy f c js ≡ true → IsFailedCopy site h (job_of 0 f c)
 copy_failed site h f c [] all there = absurd (cc)
 copy_failed site h f c (j ∷ js) all there =
     elim (or_cases (j.file == f && j.copy == c) (has_copy f c js) there) [
@@ -169,7 +169,7 @@ failed_resident site h legal j failed =
 
 -- ---- a live archive job's file is resident
 
-older_live : (h : History) (f : ℕ) → is_live h f ≡ true → f ≤ length h
+pub older_live : (h : History) (f : ℕ) → is_live h f ≡ true → f ≤ length h
 older_live h f live = (named_within h f (path_of h f) live).1
 
 no_delete : (e : Entry) (h : History) (f : ℕ) (k : Ask) → e.ask ≡ k → ((who : Who) (path : List ℕ) → k ≡ ask.Delete who path → bytes_eq path (path_of h f) ≡ false) → (who : Who) (path : List ℕ) → e.ask ≡ ask.Delete who path → bytes_eq path (path_of h f) ≡ false
@@ -282,7 +282,7 @@ made a b c = record { birth = a; file = b; copy = c }
 made_same : (a b c x y z : ℕ) → a ≡ x → b ≡ y → c ≡ z → made a b c ≡ made x y z
 made_same a b c x y z p q r = cc
 
-goes_quietly : (site : Site) (h : History) (e : Entry) (f : ℕ) (r : Recall) → IsLegal site (e ∷ h) → live_recall site h f ≡ Some r → f ≤ length h → (k : Ask) (a : Answer) → e.ask ≡ k → e.answer ≡ a → is_some (recall_goes_on site h e f r k a) ≡ true → brings_in k a (length h + 1) f ≡ false
+pub goes_quietly : (site : Site) (h : History) (e : Entry) (f : ℕ) (r : Recall) → IsLegal site (e ∷ h) → live_recall site h f ≡ Some r → f ≤ length h → (k : Ask) (a : Answer) → e.ask ≡ k → e.answer ≡ a → is_some (recall_goes_on site h e f r k a) ≡ true → brings_in k a (length h + 1) f ≡ false
 unfolding made
 goes_quietly site h e f r legal is low (ask.Put who path sum) a ek ea on = next_not f (length h) low
 goes_quietly site h e f r legal is low (ask.Recalled m job) (answer.Arrived fate.Done) ek ea on =
@@ -371,6 +371,3 @@ births_meet_none site h e f c (ask.Recalled m job) (answer.Arrived fate.Done) le
     no_archive site h legal.0 f c on
 births_meet_none site h e f c (ask.Repack who v) a legal ek ea other b = absurd (other who v refl)
 births_meet_none site h e f c _ a legal ek ea other b = absurd (cc)
-
-pub no_birth_meets_job : (site : Site) (h : History) (e : Entry) → IsLegal site (e ∷ h) → ((who : Who) (v : ℕ) → e.ask ≡ ask.Repack who v → ⊥) → (f c : ℕ) → bears_archive site h e.ask e.answer f (suc c) ≡ true → archive_birth site h f (suc c) ≡ None
-no_birth_meets_job site h e legal other f c b = births_meet_none site h e f c e.ask e.answer legal refl refl other b

@@ -47,3 +47,12 @@ pub mod BatchOrder
 pub mod PutLaw
 pub mod OnePlaceLaw
 pub mod MediaLaw
+pub mod RepackedCopies
+pub mod RepackedJobs
+pub mod WaitLists
+pub mod Waiting
+pub mod Subscribers
+pub mod FlushedCopies
+pub mod RepackLaw
+pub mod StagePins
+pub mod PinLaw

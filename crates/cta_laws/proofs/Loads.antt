@@ -1,6 +1,6 @@
 -- What the open mounts that pass a test claim, in bytes, after one more entry.
 use Rattle.std.proofs.Common.{◌≡◌, ℕ, ◌+◌, ◌≤◌, List, [], ◌∷◌, ◌++◌, Bool, true, false, ◌&&◌, not, refl, sym, ◌∙◌, ap, subst, arith, length}
-use Rattle.std.specs.Prelude.{Option, if◌then◌else◌, ◌==◌, filter, sum_by}
+use Rattle.std.specs.Prelude.{Option, if◌then◌else◌, ◌==◌, filter}
 use Rattle.std.proofs.lemmas.Bool.{and_parts, eq-eqb}
 use Rattle.cta_site.specs.declared.site.Site.{Site}
 use Rattle.cta_site.specs.Listed.{Listed}
@@ -18,6 +18,7 @@ use Rattle.cta_model.specs.Mounts.{mount_of, asked_mount, is_mount, is_open, ope
 use Rattle.cta_model.specs.Tapes.{size_of_items}
 use Rattle.cta_model.specs.Answers.{answer_of, is_accepted, is_known, is_last_batch, claims_all, names_twice}
 use Rattle.cta_model.specs.Legal.{IsLegal}
+use Rattle.cta_laws.specs.Claims.{claimed_total}
 use Rattle.cta_laws.proofs.OpenMounts.{AllUpTo, opens_up_to, up_to_filter, mount_older, open_older}
 use Rattle.cta_laws.proofs.Claims.{AllOf, claim_is_open}
 use Rattle.cta_laws.proofs.LengthLaw.{claimed_new, not_unknown}
@@ -25,9 +26,6 @@ use Rattle.cta_laws.proofs.PlaceLaw.{flushed_known}
 use Rattle.cta_laws.proofs.Sums.{total, total_is, total_append, total_filter, total_less, total_le, total_one, open_distinct, size_in, size_is, IsOfFile, claimed_of_file, file_size, without_all, items_total, batch_of_file, last_of_file}
 
 -- ---- what the open mounts that pass a test claim
-
-abbrev pub claimed_total : (Mount → Bool) → History → ℕ
-claimed_total test h = sum_by (λ m. size_of_items (claimed_items h m)) (open_where test h)
 
 pub load : (Mount → Bool) → History → List Item → ℕ → ℕ
 load test h items m = if is_mount test (mount_of h m) then total size_in items else 0

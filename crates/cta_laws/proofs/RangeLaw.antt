@@ -92,7 +92,7 @@ FileRange site h f c = (1 ≤ f) × (f ≤ length h) × (c ≤ copies_of_file si
 abbrev pub FlushedInRange : Site → History → Type 0
 FlushedInRange site h = (f c : ℕ) (p : Place) → last_flushed h f c ≡ Some p → FileRange site h f c
 
-placed : (v s : ℕ) (o : Option Place) → is_at v s o ≡ true → (p : Place) × (o ≡ Some p)
+pub placed : (v s : ℕ) (o : Option Place) → is_at v s o ≡ true → (p : Place) × (o ≡ Some p)
 placed v s None e = absurd (cc)
 placed v s (Some p) e = (p, refl)
 

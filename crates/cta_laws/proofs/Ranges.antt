@@ -89,6 +89,16 @@ any_filter test keep (x ∷ xs) =
       | inr miss ↦ rw miss (any_filter test keep xs)
     ]
 
+-- ---- what a list has that passes a test
+
+pub some_any : {A : Type 0} (test : A → Bool) (xs : List A) → list_any test xs ≡ true → (x : A) × (test x ≡ true)
+some_any test [] e = absurd (cc)
+some_any test (x ∷ xs) e = elim (or_cases (test x) (list_any test xs) e) [ inl hit ↦ (x, hit) | inr more ↦ some_any test xs more ]
+
+pub any_mono : {A : Type 0} (p q : A → Bool) (xs : List A) → ((x : A) → p x ≡ true → q x ≡ true) → list_any p xs ≡ true → list_any q xs ≡ true
+any_mono p q [] says e = absurd (cc)
+any_mono p q (x ∷ xs) says e = elim (or_cases (p x) (list_any p xs) e) [ inl hit ↦ or_left (q x) _ (says x hit) | inr more ↦ or_right (q x) _ (any_mono p q xs says more) ]
+
 -- ---- the same test or function, said otherwise
 
 pub any_same : {A : Type 0} (p q : A → Bool) (xs : List A) → ((x : A) → p x ≡ q x) → list_any p xs ≡ list_any q xs

@@ -16,6 +16,7 @@ use Rattle.cta_model.specs.Mounts.{mount_of, is_mounted}
 use Rattle.cta_model.specs.Tapes.{tape_state, is_broken, may_be_repacked}
 use Rattle.cta_model.specs.Places.{live_items_on}
 use Rattle.cta_model.specs.RepackItems.{repack_items}
+use Rattle.cta_model.specs.Repacks.{is_repack_live}
 use Rattle.cta_model.specs.Stages.{request_of}
 use Rattle.cta_model.specs.Space.{free_space, evictable_size, evicted_for}
 use Rattle.cta_model.specs.Choice.{mount_choice}
@@ -41,7 +42,7 @@ AnswerIs site h t (ask.DriveUp who d) a = a ≡ answer.Done
 AnswerIs site h t (ask.DriveDown who d) a = a ≡ answer.Done
 AnswerIs site h t (ask.TapeState who v s) a = (a ≡ answer.Done) × (is_mounted h v ≡ false) × (is_broken (tape_state site h v) ≡ false)
 AnswerIs site h t (ask.Reclaim who v) a = (a ≡ answer.Done) × (is_mounted h v ≡ false) × (is_empty (live_items_on h v) ≡ true)
-AnswerIs site h t (ask.Repack who v) a = (a ≡ answer.Repacking (length h + 1) (rows (repack_items h v))) × (may_be_repacked (tape_state site h v) ≡ true)
+AnswerIs site h t (ask.Repack who v) a = (a ≡ answer.Repacking (length h + 1) (rows (repack_items h v))) × (may_be_repacked (tape_state site h v) ≡ true) × (is_repack_live site h v ≡ false)
 AnswerIs site h t (ask.Retry who paths) a = a ≡ answer.Retried (rows (retried_jobs site h [] paths.items))
 
 -- each entry of a legal history has the answer to its ask

@@ -1,20 +1,20 @@
 -- Laws of jobs.
-use Rattle.std.specs.Prelude.{ℕ, suc, ◌+◌, ◌≡◌, ◌<◌, ◌≤◌, length, List, [], ◌∷◌, ◌++◌, Some, None, is_some, IsSome, true, false, if◌then◌else◌, ◌⊎◌}
+use Rattle.std.specs.Prelude.{ℕ, suc, ◌+◌, ◌≡◌, ◌<◌, ◌≤◌, length, List, [], ◌∷◌, ◌++◌, Some, None, is_some, IsSome, true, false, if◌then◌else◌, ◌⊎◌, Bool}
 use Rattle.cta_site.specs.declared.site.Site.{Site}
 use Rattle.cta_site.specs.ValidSite.{IsValidSite}
 use Rattle.cta_model.specs.declared.entries.Entry.{Entry}
 use Rattle.cta_model.specs.declared.asks.Job.{Job}
 use Rattle.cta_model.specs.History.{History, entry_of}
-use Rattle.cta_model.specs.Mounts.{mount_of, is_open, claimer_of, same_job, has_job, claim_names, claims}
+use Rattle.cta_model.specs.Mounts.{mount_of, is_open, claimer_of, same_job, has_job, claim_names, claims, item_jobs, claimed_items}
 use Rattle.cta_model.specs.declared.asks.Direction.{Direction}
-use Rattle.cta_model.specs.declared.asks.Who.{Who}
 use Rattle.cta_model.specs.declared.asks.Ask.{Ask}
 use Rattle.cta_model.specs.declared.asks.Ask.TheVariants as ask
 use Rattle.cta_model.specs.declared.states.Mount.{Mount}
 use Rattle.cta_model.specs.Files.{is_live, path_of}
 use Rattle.cta_model.specs.Buffer.{is_resident}
 use Rattle.cta_model.specs.Recalls.{live_recall}
-use Rattle.cta_laws.specs.Claims.{claimer_after}
+use Rattle.cta_model.specs.Tapes.{size_of_items}
+use Rattle.cta_laws.specs.Claims.{claimed_by, claimed_total, claimer_after, ended_jobs, is_asked, size_of_jobs}
 use Rattle.cta_model.specs.Jobs.{archive_birth, bears_archive, is_live_job, job_end}
 use Rattle.cta_model.specs.Queues.{queue_of, direction_of, key_of}
 use Rattle.cta_model.specs.Legal.{IsLegal}
@@ -79,6 +79,18 @@ ClaimsGoTheirWay = (site : Site) (h : History) → IsLegal site h → (m : ℕ) 
 abbrev pub ClaimerMoves : Type 0
 ClaimerMoves = (site : Site) (h : History) (e : Entry) → IsLegal site (e ∷ h) → (j : Job) → claimer_of (e ∷ h) j ≡ claimer_after e.ask e.answer j (claimer_of h j)
 
+-- a mount claims a job at most once
+abbrev pub ClaimsNoJobTwice : Type 0
+ClaimsNoJobTwice = (site : Site) (h : History) → IsLegal site h → (m : ℕ) (j : Job) → count_job j (item_jobs (claimed_items h m)) ≤ 1
+
+-- the bytes that the open mounts which pass a test claim grow by the sizes of the items that an entry claims, and fall by those of the
+-- jobs whose claims it ends, where its mount passes the test
+abbrev pub ClaimedBytesMove : Type 0
+ClaimedBytesMove =
+    (test : Mount → Bool) (site : Site) (h : History) (e : Entry) → IsLegal site (e ∷ h)
+    → claimed_total test (e ∷ h) + (if is_asked test h e.ask then size_of_jobs h (ended_jobs e.ask) else 0)
+    ≡ claimed_total test h + (if is_asked test h e.ask then size_of_items (claimed_by e.ask e.answer) else 0)
+
 -- ---- jobs and their files
 
 -- the file of a live archive job is resident
@@ -93,12 +105,6 @@ RecallIsAway = (site : Site) (h : History) → IsLegal site h → (f : ℕ) → 
 abbrev pub JobFileIsLive : Type 0
 JobFileIsLive = (site : Site) (h : History) → IsLegal site h → (j : Job) → is_live_job site h j ≡ true → is_live h j.file ≡ true
 
--- where an entry that is no Repack bears an archive job of a copy, the copy had no live one
-abbrev pub NoBirthMeetsJob : Type 0
-NoBirthMeetsJob =
-    (site : Site) (h : History) (e : Entry) → IsLegal site (e ∷ h) → ((who : Who) (v : ℕ) → e.ask ≡ ask.Repack who v → ⊥)
-    → (f c : ℕ) → bears_archive site h e.ask e.answer f (suc c) ≡ true → archive_birth site h f (suc c) ≡ None
-
 -- an ask is the Put of this path
 abbrev pub IsPutOf : List ℕ → Ask → Type 0
 IsPutOf p (ask.Put who path sum) = path ≡ p
@@ -111,3 +117,8 @@ HasPut h f p = (e : Entry) × (entry_of h f ≡ Some e) × IsPutOf p e.ask
 -- in a legal history the file of a live job has its Put
 abbrev pub JobFileHasPut : Type 0
 JobFileHasPut = (site : Site) (h : History) → IsLegal site h → (j : Job) → is_live_job site h j ≡ true → HasPut h j.file (path_of h j.file)
+
+-- an entry bears an archive job only for a copy that has no live one, so that no birth is lost
+abbrev pub NoBirthIsLost : Type 0
+NoBirthIsLost =
+    (site : Site) (h : History) (e : Entry) → IsLegal site (e ∷ h) → (f c : ℕ) → bears_archive site h e.ask e.answer f (suc c) ≡ true → archive_birth site h f (suc c) ≡ None

@@ -7,6 +7,8 @@ pub mod Lengths
 pub mod Jobs
 pub mod Space
 pub mod Stages
+pub mod Repacks
+pub mod Pins
 pub mod Claims
 pub mod Changes
 pub mod Media

@@ -11,7 +11,7 @@ use Rattle.cta_model.specs.declared.asks.Item.{Item}
 use Rattle.cta_model.specs.declared.answers.Answer.TheVariants as answer
 use Rattle.cta_model.specs.declared.states.Place.{Place}
 use Rattle.cta_model.specs.History.{History}
-use Rattle.cta_model.specs.Files.{is_live, sum_of}
+use Rattle.cta_model.specs.Files.{is_live, copies_of_file, sum_of}
 use Rattle.cta_model.specs.Mounts.{asked_mount, tape_of_mount}
 use Rattle.cta_model.specs.Tapes.{tape_items, next_fseq}
 use Rattle.cta_model.specs.Places.{place_of, flushed_in, is_copy_of, live_items_on}
@@ -111,3 +111,12 @@ abbrev pub OnePlaceOnTape : Type 0
 OnePlaceOnTape =
     (site : Site) (h : History) → IsValidSite site → IsLegal site h → (f c d : ℕ) (p q : Place) → place_of h f c ≡ Some p → place_of h f d ≡ Some q → p.tape ≡ q.tape
     → c ≡ d
+
+-- in a legal history each place is on a tape of the site
+abbrev pub PlacesAreOnSite : Type 0
+PlacesAreOnSite = (site : Site) (h : History) → IsLegal site h → (f c : ℕ) (p : Place) → place_of h f c ≡ Some p → p.tape < length site.tapes.items
+
+-- in a legal history each place is of a copy of the file's class
+abbrev pub PlacesAreOfCopies : Type 0
+PlacesAreOfCopies =
+    (site : Site) (h : History) → IsLegal site h → (f c : ℕ) (p : Place) → place_of h f c ≡ Some p → (1 ≤ c) × (c ≤ copies_of_file site h f)

@@ -1,5 +1,5 @@
 // Laws of jobs.
-ghost use Rattle.cta_laws.specs.Jobs.{ArchiveIsResident, ArchiveKeyIsPool, ClaimedOnce, ClaimerMoves, ClaimsGoTheirWay, EndsForGood, IsQueuedOrClaimed, JobFileHasPut, JobFileIsLive, NoBirthMeetsJob, NoClaimAfterEnd, RecallIsAway, RecallKeyIsTape};
+ghost use Rattle.cta_laws.specs.Jobs.{ArchiveIsResident, ArchiveKeyIsPool, ClaimedBytesMove, ClaimedOnce, ClaimerMoves, ClaimsGoTheirWay, ClaimsNoJobTwice, EndsForGood, IsQueuedOrClaimed, JobFileHasPut, JobFileIsLive, NoBirthIsLost, NoClaimAfterEnd, RecallIsAway, RecallKeyIsTape};
 
 use cta_site::numbers_are_known;
 
@@ -46,6 +46,17 @@ pub fn claimer_moves()
     ensures { ClaimerMoves }
 {}
 
+/// A mount claims a job at most once. This project's own.
+pub fn claims_no_job_twice()
+    ensures { ClaimsNoJobTwice }
+{}
+
+/// What the open mounts claim grows by the sizes of what a Claim takes, and falls by exactly those of what ends a claim. This
+/// project's own.
+pub fn claimed_bytes_move()
+    ensures { ClaimedBytesMove }
+{}
+
 /// The file of a live archive job is resident. This project's own.
 pub fn archive_is_resident()
     ensures { ArchiveIsResident }
@@ -61,9 +72,9 @@ pub fn job_file_is_live()
     ensures { JobFileIsLive }
 {}
 
-/// Where an entry that is no Repack bears an archive job of a copy, the copy had no live one. This project's own.
-pub fn no_birth_meets_job()
-    ensures { NoBirthMeetsJob }
+/// An entry bears an archive job only for a copy that has no live one. This project's own.
+pub fn no_birth_is_lost()
+    ensures { NoBirthIsLost }
 {}
 
 /// The file of a live job has its Put. This project's own.

@@ -11,14 +11,16 @@ mod media;
 mod mounts;
 mod places;
 mod recalls;
+mod repacks;
 mod space;
 mod stages;
 
 pub use asks::asks_are_answered;
 pub use jobs::{
-    archive_is_resident, archive_key_is_pool, claimed_once, claimer_moves, claims_go_their_way,
-    ends_for_good, is_queued_or_claimed, job_file_has_put, job_file_is_live, no_birth_meets_job,
-    no_claim_after_end, recall_is_away, recall_key_is_tape,
+    archive_is_resident, archive_key_is_pool, claimed_bytes_move, claimed_once, claimer_moves,
+    claims_go_their_way, claims_no_job_twice, ends_for_good, is_queued_or_claimed,
+    job_file_has_put, job_file_is_live, no_birth_is_lost, no_claim_after_end, recall_is_away,
+    recall_key_is_tape,
 };
 pub use lengths::{
     claims_are_short, flushes_are_short, fseqs_are_low, moments_never_fall, stays_short,
@@ -30,9 +32,12 @@ pub use mounts::{
 };
 pub use places::{
     batches_are_rising, flushed_in_turn, items_are_of_files, items_in_turn, live_items_in_order,
-    no_copy_is_lost, one_place_on_tape, places_are_apart, places_below, places_on_tape,
-    places_stay,
+    no_copy_is_lost, one_place_on_tape, places_are_apart, places_are_of_copies, places_are_on_site,
+    places_below, places_on_tape, places_stay,
 };
 pub use recalls::{completes_once, recalled_is_resident, stale_after_end, stays_resident};
+pub use repacks::{reading_has_recall, writing_has_job};
 pub use space::{buffer_has_room, tapes_have_room};
-pub use stages::finishes_after_start;
+pub use stages::{
+    asked_has_waiting, away_is_unpinned, finishes_after_start, subscribers_wait, waiting_has_recall,
+};

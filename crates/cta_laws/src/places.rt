@@ -1,5 +1,5 @@
 // Laws of places.
-ghost use Rattle.cta_laws.specs.Places.{BatchesAreRising, FlushedInTurn, ItemsAreOfFiles, ItemsInTurn, LiveItemsInOrder, NoCopyIsLost, OnePlaceOnTape, PlacesAreApart, PlacesBelow, PlacesOnTape, PlacesStay};
+ghost use Rattle.cta_laws.specs.Places.{BatchesAreRising, FlushedInTurn, ItemsAreOfFiles, ItemsInTurn, LiveItemsInOrder, NoCopyIsLost, OnePlaceOnTape, PlacesAreApart, PlacesAreOfCopies, PlacesAreOnSite, PlacesBelow, PlacesOnTape, PlacesStay};
 
 use cta_site::{numbers_are_known, routes_go_apart};
 
@@ -63,3 +63,13 @@ pub fn one_place_on_tape()
     numbers_are_known();
     routes_go_apart();
 }
+
+/// Each place is on a tape of the site. This project's own.
+pub fn places_are_on_site()
+    ensures { PlacesAreOnSite }
+{}
+
+/// Each place is of a copy of the file's class. This project's own.
+pub fn places_are_of_copies()
+    ensures { PlacesAreOfCopies }
+{}
