@@ -1,0 +1,12 @@
+pub mod Order
+pub mod JobBook
+pub mod JobRows
+pub mod Queues
+pub mod Counts
+pub mod Failed
+pub mod Mounts
+pub mod Names
+pub mod Tapes
+pub mod Held
+pub mod Requests
+pub mod Repacks
