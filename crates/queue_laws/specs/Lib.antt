@@ -1,0 +1,4 @@
+pub mod Walks
+pub mod Queued
+pub mod LastBirths
+pub mod Books
