@@ -1,0 +1,5 @@
+pub mod Members
+pub mod Failures
+pub mod FailedLists
+pub mod Charged
+pub mod FailedSteps

@@ -1,0 +1,4 @@
+pub mod CountSteps
+pub mod RowSteps
+pub mod RowAnswers
+pub mod DownSteps
