@@ -1,0 +1,3 @@
+pub mod StageParts
+pub mod RetryParts
+pub mod RepackParts

@@ -1,0 +1,5 @@
+pub mod Ends
+pub mod Parts
+pub mod StateLists
+pub mod Laws
+pub mod AllAsks
