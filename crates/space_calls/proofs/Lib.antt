@@ -1,0 +1,6 @@
+pub mod PinLists
+pub mod Stands
+pub mod FileAsks
+pub mod PinAsks
+pub mod ReadAsks
+pub mod BufferLaw

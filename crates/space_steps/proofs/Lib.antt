@@ -1,0 +1,9 @@
+pub mod After
+pub mod Safe
+pub mod Residents
+pub mod Rows
+pub mod Places
+pub mod Count
+pub mod Asks
+pub mod Told
+pub mod OwnerPins

@@ -1,0 +1,4 @@
+pub mod Flushes
+pub mod TableTurns
+pub mod TableMoves
+pub mod Flags
