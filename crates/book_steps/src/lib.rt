@@ -1,0 +1,10 @@
+//! The calls of the books of stage requests and of repacks that a core makes for an ask: both stand for the history with
+//! the entry more. And what the books tell.
+#![tactic(auto)]
+
+mod laws;
+
+pub use laws::{
+    calls_move_repacks, calls_move_requests, copies_end_as_told, recalls_end_as_told,
+    repacks_tell_live,
+};
