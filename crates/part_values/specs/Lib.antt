@@ -10,3 +10,4 @@ pub mod Tapes
 pub mod Held
 pub mod Requests
 pub mod Repacks
+pub mod Room
