@@ -5,3 +5,4 @@ pub mod Loops
 pub mod StaleParts
 pub mod LastSteps
 pub mod BookMoves
+pub mod TurnLaws

@@ -18,7 +18,7 @@ use Rattle.part_values.specs.Tapes.{Table, is_whole_place, place_in}
 use Rattle.space_steps.specs.Tapes.{IsTable}
 use Rattle.table_calls.specs.Laws.{FlagIsFound}
 
-all_same : (p q : ℕ → Bool) (ns : List ℕ) → ((n : ℕ) → p n ≡ q n) → list_all p ns ≡ list_all q ns
+pub all_same : (p q : ℕ → Bool) (ns : List ℕ) → ((n : ℕ) → p n ≡ q n) → list_all p ns ≡ list_all q ns
 all_same p q [] same = refl
 all_same p q (n ∷ ns) same = rw (same n, all_same p q ns same) refl
 
@@ -35,7 +35,7 @@ some_passes test [] = refl
 some_passes test (x ∷ xs) = elim (bool_cases (test x)) [ inl hit ↦ rw hit refl | inr miss ↦ rw miss (some_passes test xs) ]
 
 -- a copy of a live file has a place where it was flushed
-flushed_is : (h : History) (v : Table) (f c : ℕ) → is_live h f ≡ true → place_in v f c ≡ place_of h f c → was_flushed h f c ≡ is_some (place_in v f c)
+pub flushed_is : (h : History) (v : Table) (f c : ℕ) → is_live h f ≡ true → place_in v f c ≡ place_of h f c → was_flushed h f c ≡ is_some (place_in v f c)
 flushed_is h v f c live is = ap is_some (sym (rw live refl) ∙ sym is)
 
 -- the table tells the state of the tape of a place

@@ -1,0 +1,32 @@
+-- A core calls a part once for each job. Calls one behind the other do what one call for all the jobs says.
+use Rattle.std.specs.Prelude.{ℕ, ◌≡◌, List, [], ◌∷◌, ◌++◌, Some, false, if◌then◌else◌, ◌==◌, not, filter}
+use Rattle.cta_model.specs.declared.asks.Job.{Job}
+use Rattle.cta_model.specs.declared.states.Charge.{Charge}
+use Rattle.cta_model.specs.History.{is_empty}
+use Rattle.cta_model.specs.Mounts.{has_job}
+use Rattle.cta_model.specs.Recalls.{Recall, recall_job}
+use Rattle.part_values.specs.JobBook.{Book, TellSame, bear_jobs, charge_jobs, claim_jobs, drop_files, end_jobs, give_back_jobs, unsubscribe_files}
+use Rattle.part_values.specs.Queues.{Lines, taken_out}
+
+-- the calls for jobs, and then for one more, leave the book as the calls for all of them do
+pub record AreBookTurns (jobs : List Job) (k : Job) (b : Book) : Type 0 where
+  pub claims : (m : ℕ) → TellSame (claim_jobs (k ∷ []) m (claim_jobs jobs m b)) (claim_jobs (jobs ++ k ∷ []) m b)
+  pub returns : TellSame (give_back_jobs (k ∷ []) (give_back_jobs jobs b)) (give_back_jobs (jobs ++ k ∷ []) b)
+  pub ends : TellSame (end_jobs (k ∷ []) (end_jobs jobs b)) (end_jobs (jobs ++ k ∷ []) b)
+  pub births : (n : ℕ) → TellSame (bear_jobs (k ∷ []) n (bear_jobs jobs n b)) (bear_jobs (jobs ++ k ∷ []) n b)
+  pub charges : (charge : Charge) → has_job k jobs ≡ false → TellSame (charge_jobs (k ∷ []) charge (charge_jobs jobs charge b)) (charge_jobs (jobs ++ k ∷ []) charge b)
+
+-- so it is for every book
+abbrev pub BookCallsInTurn : Type 0
+BookCallsInTurn = (jobs : List Job) (k : Job) (b : Book) → AreBookTurns jobs k b
+
+-- where a request leaves a live recall, and the recall is ended where it was the last, the book is as where the request is dropped
+abbrev pub DropIsTwoCalls : Type 0
+DropIsTwoCalls =
+    (b : Book) (f id : ℕ) (r : Recall) → b.recall f ≡ Some r
+    → TellSame (end_jobs (if is_empty (filter (λ s. not (s == id)) r.waiting) then recall_job r.birth f ∷ [] else []) (unsubscribe_files (f ∷ []) id b)) (drop_files (f ∷ []) id b)
+
+-- jobs, and then one more, are taken out of a queue as all of them are
+abbrev pub QueueCallsInTurn : Type 0
+QueueCallsInTurn =
+    (jobs : List Job) (k : Job) (key : ℕ) (lines : Lines) (q : ℕ) → taken_out key (k ∷ []) (taken_out key jobs lines) q ≡ taken_out key (jobs ++ k ∷ []) lines q
