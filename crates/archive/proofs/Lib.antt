@@ -1,4 +1,3 @@
-pub mod Numbers
 pub mod Copies
 pub mod PlaceInfos
 pub mod OnlyPuts

@@ -11,7 +11,7 @@ use cta_model::{Answer, Ask, Entry};
 const NO_TAPE: u32 = u32::MAX;
 
 // The entry of this number, from 1, where there is one.
-#[tactic(auto, using(crate::proofs::Numbers::numbers))]
+#[tactic(auto, using(kept_history::proofs::Numbers::numbers))]
 pub(crate) fn entry_of(entries: &[Entry], number: u32) -> Option<&Entry>
     ensures { option_map bare_entry (option_copied result) ≡ entry_of (history_in entries.now) number }
 {

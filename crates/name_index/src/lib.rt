@@ -1,0 +1,9 @@
+//! The index of paths: which live file each path names.
+#![tactic(auto)]
+
+mod index;
+
+pub use index::NameIndex;
+
+#[cfg(test)]
+mod tests;
