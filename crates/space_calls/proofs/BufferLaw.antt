@@ -37,8 +37,8 @@ use Rattle.cta_laws.proofs.StagePins.{stage_pins_newest, staged_by}
 use Rattle.part_values.specs.declared.space.Resident.{Resident}
 use Rattle.part_values.specs.declared.space.HeldPin.{HeldPin}
 use Rattle.part_values.specs.Held.{ArePinsHeld, Held, HeldAgree, enter, evict, flagged, is_held, numbers, pin_all, pins_in, pins_without, remove, set_all, set_safe, unhold, unpin_all, without}
-use Rattle.space_steps.specs.Buffer.{is_file_of, touches}
-use Rattle.space_steps.proofs.After.{aside_after, entering, leaving}
+use Rattle.space_steps.specs.Buffer.{entering, is_file_of, leaving, touches}
+use Rattle.space_steps.proofs.After.{aside_after}
 use Rattle.space_steps.specs.Held.{IsHeld}
 use Rattle.space_steps.proofs.Told.{held_is}
 use Rattle.space_steps.proofs.OwnerPins.{repack_new}

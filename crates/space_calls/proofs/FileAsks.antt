@@ -47,8 +47,8 @@ use Rattle.cta_laws.proofs.StagePins.{pins_are, staged_by}
 use Rattle.part_values.specs.declared.space.Resident.{Resident}
 use Rattle.part_values.specs.declared.space.HeldPin.{HeldPin}
 use Rattle.part_values.specs.Held.{ArePinsHeld, Held, HeldAgree, enter, evict, evicted_for as evicted_in, hold, pins_in, pins_without, remove, without}
-use Rattle.space_steps.specs.Buffer.{residents, touches}
-use Rattle.space_steps.proofs.After.{aside_after, entering, leaving}
+use Rattle.space_steps.specs.Buffer.{entering, leaving, residents, touches}
+use Rattle.space_steps.proofs.After.{aside_after}
 use Rattle.space_steps.specs.Held.{IsHeld}
 use Rattle.space_steps.proofs.Residents.{keeps_file, live_is, put_tells}
 use Rattle.space_steps.proofs.Asks.{claim_files, delete_files, none_leaves, put_files}

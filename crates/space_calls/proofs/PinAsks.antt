@@ -35,8 +35,8 @@ use Rattle.cta_laws.proofs.Waiting.{FileStands, files_stand}
 use Rattle.cta_laws.proofs.StagePins.{pins_are, stage_pins_newest, staged_by}
 use Rattle.part_values.specs.declared.space.HeldPin.{HeldPin}
 use Rattle.part_values.specs.Held.{Held, HeldAgree, pin_all, pins_in, unpin_all}
-use Rattle.space_steps.specs.Buffer.{is_file_of, touches}
-use Rattle.space_steps.proofs.After.{aside_after, entering, leaving}
+use Rattle.space_steps.specs.Buffer.{entering, is_file_of, leaving, touches}
+use Rattle.space_steps.proofs.After.{aside_after}
 use Rattle.space_steps.specs.Held.{IsHeld}
 use Rattle.space_steps.proofs.OwnerPins.{none_frees, one_kind, repack_new}
 use Rattle.space_calls.specs.Calls.{file_where, files_where, has_pair, owned_by, pins_told}

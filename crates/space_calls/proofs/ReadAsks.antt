@@ -49,8 +49,8 @@ use Rattle.cta_laws.proofs.PinLaw.{stage_pins_recalled}
 use Rattle.part_values.specs.declared.space.Resident.{Resident}
 use Rattle.part_values.specs.declared.space.HeldPin.{HeldPin}
 use Rattle.part_values.specs.Held.{ArePinsHeld, Held, HeldAgree, enter, numbers, pin_all, pins_in, set_all, set_safe, unhold, unpin_all}
-use Rattle.space_steps.specs.Buffer.{is_file_of, residents, touches}
-use Rattle.space_steps.proofs.After.{aside_after, entering, leaving}
+use Rattle.space_steps.specs.Buffer.{entering, is_file_of, leaving, residents, touches}
+use Rattle.space_steps.proofs.After.{aside_after}
 use Rattle.space_steps.specs.Held.{IsHeld, is_unpinned}
 use Rattle.space_steps.proofs.Asks.{recalled_files}
 use Rattle.space_steps.proofs.Residents.{recalled_away}

@@ -29,8 +29,8 @@ use Rattle.cta_laws.proofs.StagePins.{stage_pins_newest, staged_by}
 use Rattle.part_values.specs.declared.space.Resident.{Resident}
 use Rattle.part_values.specs.declared.space.HeldPin.{HeldPin}
 use Rattle.part_values.specs.Held.{ArePinsHeld, Held, HeldAgree, flagged, pins_in, set_all, set_safe, without}
-use Rattle.space_steps.specs.Buffer.{is_file_of, resident_at, residents, touches}
-use Rattle.space_steps.proofs.After.{aside_after, entering, leaving}
+use Rattle.space_steps.specs.Buffer.{entering, is_file_of, leaving, resident_at, residents, touches}
+use Rattle.space_steps.proofs.After.{aside_after}
 use Rattle.space_steps.specs.Held.{IsHeld, is_unpinned}
 use Rattle.space_steps.proofs.Residents.{arrival_low, leaves, residents_are}
 use Rattle.space_steps.proofs.Rows.{aside_is}

@@ -20,20 +20,9 @@ use Rattle.part_values.specs.declared.space.Resident.{Resident}
 use Rattle.part_values.specs.declared.space.TapeRow.{TapeRow}
 use Rattle.part_values.specs.Held.{flagged, without}
 use Rattle.part_values.specs.Tapes.{AreDistinct, Table, place_in, row_in}
-use Rattle.space_steps.specs.Buffer.{resident_at, touches}
+use Rattle.space_steps.specs.Buffer.{entering, leaving, resident_at, touches}
 
 -- ---- the buffer
-
--- the files that leave the buffer: what is evicted, and what is deleted
-abbrev pub leaving : History → Ask → Answer → List ℕ
-leaving h (ask.Delete who path) a = option_to_list (live_file h path)
-leaving h k a = evicted_in k a
-
--- the file that enters it: that of a Put, or of a completed recall
-abbrev pub entering : History → Ask → Answer → List ℕ
-entering h (ask.Put who path sum) a = next_number h ∷ []
-entering h (ask.Recalled m job) (answer.Arrived fate.Done) = job.file ∷ []
-entering h _ _ = []
 
 -- the resident files after an entry
 abbrev pub residents_after : Site → History → Entry → List Resident → List Resident

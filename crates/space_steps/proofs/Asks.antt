@@ -26,8 +26,8 @@ use Rattle.cta_model.specs.declared.answers.Answer.TheVariants as answer
 use Rattle.cta_model.specs.declared.asks.Fate.TheVariants as fate
 use Rattle.space_steps.proofs.Residents.{put_tells, residents_are}
 use Rattle.cta_model.specs.Space.{is_safe}
-use Rattle.space_steps.specs.Buffer.{is_put_of, resident_at, residents, touches}
-use Rattle.space_steps.proofs.After.{entering, leaving, placed_after}
+use Rattle.space_steps.specs.Buffer.{entering, is_put_of, leaving, resident_at, residents, touches}
+use Rattle.space_steps.proofs.After.{placed_after}
 use Rattle.part_values.specs.declared.space.Resident.{Resident}
 use Rattle.part_values.specs.Held.{flagged, without}
 use Rattle.space_steps.proofs.Places.{dead_none, new_dead, new_place}

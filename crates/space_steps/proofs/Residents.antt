@@ -36,8 +36,8 @@ use Rattle.cta_model.specs.declared.asks.Direction.TheVariants as direction
 use Rattle.part_values.specs.declared.space.Resident.{Resident}
 use Rattle.part_values.specs.Held.{flagged, without}
 use Rattle.cta_model.specs.Space.{is_safe}
-use Rattle.space_steps.specs.Buffer.{resident_at, residents, touches}
-use Rattle.space_steps.proofs.After.{entering, leaving, residents_after}
+use Rattle.space_steps.specs.Buffer.{entering, leaving, resident_at, residents, touches}
+use Rattle.space_steps.proofs.After.{residents_after}
 use Rattle.cta_laws.proofs.Paths.{bytes_self, known_path, same_bytes}
 use Rattle.cta_laws.proofs.RecalledCopy.{done_live, fit_reads, recalled_copy}
 use Rattle.cta_laws.proofs.JobFiles.{recall_absent}

@@ -23,8 +23,7 @@ use Rattle.cta_model.specs.declared.asks.Ask.TheVariants as ask
 use Rattle.cta_model.specs.declared.answers.Answer.TheVariants as answer
 use Rattle.cta_model.specs.declared.asks.Fate.TheVariants as fate
 use Rattle.cta_model.specs.Space.{is_safe}
-use Rattle.space_steps.specs.Buffer.{is_file_of, is_put_of, touches}
-use Rattle.space_steps.proofs.After.{entering}
+use Rattle.space_steps.specs.Buffer.{entering, is_file_of, is_put_of, touches}
 use Rattle.cta_laws.proofs.Bools.{not_same, turned}
 use Rattle.cta_laws.proofs.FileFrames.{all_places_same, archive_same_at, jobs_same, taped_same}
 

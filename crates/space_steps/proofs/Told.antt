@@ -154,11 +154,14 @@ resident_among h f here = by (arrival_of h f) refl here
     by None is e = absurd (cc)
     by (Some k) is e = arrived_there h h f k is (was_arrival _ (last_arrival h f) k is)
 
+pub among_is : (h : History) (f : ℕ) → has_number f (resident_files h) ≡ is_resident h f
+among_is h f = same_bool (has_number f (resident_files h)) (is_resident h f) (λ e. number_among (λ n. is_resident h n ≡ true) (resident_files h) (arrived_resident h h) f e) (λ e. resident_among h f e)
+
 pub held_is : (site : Site) (h : History) (v : Held) (f : ℕ) → IsHeld site h v → is_held v f ≡ is_resident h f
 held_is site h v f is =
     ap (λ (rs : List Resident). has_number f (numbers rs)) is.files
     ∙ ap (has_number f) (numbers_are site h (resident_files h))
-    ∙ same_bool (has_number f (resident_files h)) (is_resident h f) (λ e. number_among (λ n. is_resident h n ≡ true) (resident_files h) (arrived_resident h h) f e) (λ e. resident_among h f e)
+    ∙ among_is h f
 
 pub buffer_tells_files : BufferTellsFiles
 buffer_tells_files site h v f is = held_is site h v f is

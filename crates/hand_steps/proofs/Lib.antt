@@ -1,0 +1,3 @@
+pub mod NextTape
+pub mod ShelfLaw
+pub mod ContentLaw
