@@ -2,12 +2,10 @@
 use Rattle.std.specs.Prelude.{ℕ, List, ◌≡◌, refl, ◌∷◌, []}
 use Rattle.std.proofs.Common.{◌∙◌, sym, ap, subst}
 use Rattle.cta_site.specs.declared.site.Site.{Site}
-use Rattle.cta_model.specs.declared.entries.Entry.{Entry}
 use Rattle.cta_model.specs.History.{History}
-use Rattle.part_values.specs.JobBook.{Book, TellSame}
 use Rattle.job_steps.specs.Parts.{JobParts, JobPartsStand, no_job_parts}
-use Rattle.mount_steps.specs.Mounts.{AreDown, AreOpenMounts, downs_after, rows_after}
-use Rattle.failed_steps.specs.Failed.{failed_after, failed_jobs}
+use Rattle.mount_steps.specs.Mounts.{AreOpenMounts}
+use Rattle.failed_steps.specs.Failed.{failed_after}
 use Rattle.recall_steps.specs.AllAsks.{parts_after}
 use Rattle.mount_steps.proofs.RowSteps.{rows_move}
 use Rattle.mount_steps.proofs.DownSteps.{downs_move, mounts_start_empty}
@@ -19,7 +17,6 @@ use Rattle.part_values.specs.declared.mounts.OpenMount.{OpenMount}
 use Rattle.cta_model.specs.declared.asks.Direction.{Direction}
 use Rattle.cta_model.specs.declared.asks.Direction.TheVariants as direction
 use Rattle.entry_steps.specs.AllParts.{TellSameJobs, empty_parts, jobs_in}
-use Rattle.entry_steps.specs.Stands.{AreCalled, Stands}
 use Rattle.entry_steps.specs.Laws.{CallsMoveAllParts, EmptyPartsStand}
 
 -- job parts that tell the same as some that stand for a history stand for it
@@ -72,6 +69,6 @@ calls_move_all_parts site h e v v' legal stands called = record {
   space = calls_move_parts site h e v.space v'.space legal stands.space called.space;
   jobs = stand_same site (e ∷ h) (jobs_in v') (parts_after site h e e.ask e.answer (jobs_in v)) called.jobs (job_parts_move site h e (jobs_in v) legal stands.jobs);
   mounts = subst (λ (rows : List OpenMount). AreOpenMounts site (e ∷ h) rows) (sym called.mounts) (rows_move site h e v.mounts legal stands.mounts);
-  downs = subst (λ (downs : List ℕ). AreDown (e ∷ h) downs) (sym called.downs) (downs_move site h e v.mounts v.downs legal stands.mounts stands.downs);
+  downs = λ d. called.downs d ∙ downs_move site h e v.mounts v.downs legal stands.mounts stands.downs d;
   failed = called.failed ∙ ap (failed_after site h e.ask e.answer) stands.failed ∙ sym (failed_move site h e legal);
 }

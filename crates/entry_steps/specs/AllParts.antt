@@ -1,5 +1,5 @@
 -- All parts of the kept state.
-use Rattle.std.specs.Prelude.{ℕ, List, [], map, ◌≡◌}
+use Rattle.std.specs.Prelude.{ℕ, List, [], ◌≡◌}
 use Rattle.cta_site.specs.declared.site.Site.{Site}
 use Rattle.cta_model.specs.declared.asks.Direction.{Direction}
 use Rattle.cta_model.specs.declared.asks.Job.{Job}

@@ -1,8 +1,8 @@
 -- What all parts stand for, and the calls for an entry.
-use Rattle.std.specs.Prelude.{◌≡◌}
+use Rattle.std.specs.Prelude.{ℕ, ◌≡◌}
 use Rattle.cta_site.specs.declared.site.Site.{Site}
 use Rattle.cta_model.specs.declared.entries.Entry.{Entry}
-use Rattle.cta_model.specs.History.{History}
+use Rattle.cta_model.specs.History.{History, has_number}
 use Rattle.mount_steps.specs.Mounts.{AreDown, AreOpenMounts, downs_after, rows_after}
 use Rattle.job_steps.specs.Parts.{JobPartsStand}
 use Rattle.recall_steps.specs.AllAsks.{parts_after}
@@ -23,5 +23,5 @@ pub record AreCalled (site : Site) (h : History) (e : Entry) (v v' : AllParts) :
   pub space : ArePartsCalled site h e v.space v'.space
   pub jobs : TellSameJobs (jobs_in v') (parts_after site h e e.ask e.answer (jobs_in v))
   pub mounts : v'.mounts ≡ rows_after site e.ask e.answer v.mounts
-  pub downs : v'.downs ≡ downs_after e.ask v.mounts v.downs
+  pub downs : (d : ℕ) → has_number d v'.downs ≡ has_number d (downs_after e.ask v.mounts v.downs)
   pub failed : v'.failed ≡ failed_after site h e.ask e.answer v.failed
