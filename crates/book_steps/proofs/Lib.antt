@@ -4,3 +4,4 @@ pub mod RequestCalls
 pub mod StageCalls
 pub mod RepackTurns
 pub mod RepackCalls
+pub mod SameBooks

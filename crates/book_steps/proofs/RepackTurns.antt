@@ -25,7 +25,7 @@ use Rattle.book_steps.specs.Calls.{items_here, readers, readers_of, writers, wri
 abbrev pub with_items : (RepackCopy → RepackCopy) → Repack → Repack
 with_items turn r = record { tape = r.tape; items = map turn r.items }
 
-set_is : (id k f c : ℕ) (s : ItemState) (v : Repacks) → repack_in (set_state id f c s v) k ≡ (if id == k then option_map (with_items (set_item f c s)) (repack_in v k) else repack_in v k)
+pub set_is : (id k f c : ℕ) (s : ItemState) (v : Repacks) → repack_in (set_state id f c s v) k ≡ (if id == k then option_map (with_items (set_item f c s)) (repack_in v k) else repack_in v k)
 set_is id k f c s [] = either (id == k)
   where
     either : (b : Bool) → ◌≡◌ {A = Option Repack} None (if b then option_map (with_items (set_item f c s)) None else None)

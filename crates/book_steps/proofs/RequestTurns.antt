@@ -28,7 +28,7 @@ use Rattle.book_steps.specs.Calls.{asked_by, waiters, waiters_of}
 abbrev pub with_files : (RequestFile → RequestFile) → StageRequest → StageRequest
 with_files turn r = record { at = r.at; files = map turn r.files }
 
-turned_is : (id k : ℕ) (turn : RequestFile → RequestFile) (v : Requests) → request_in (turn_request id turn v) k ≡ (if id == k then option_map (with_files turn) (request_in v k) else request_in v k)
+pub turned_is : (id k : ℕ) (turn : RequestFile → RequestFile) (v : Requests) → request_in (turn_request id turn v) k ≡ (if id == k then option_map (with_files turn) (request_in v k) else request_in v k)
 turned_is id k turn [] = either (id == k)
   where
     either : (b : Bool) → ◌≡◌ {A = Option StageRequest} None (if b then option_map (with_files turn) None else None)

@@ -1,7 +1,11 @@
 -- How the calls of a core move the books of stage requests and of repacks.
-use Rattle.std.specs.Prelude.{ℕ, suc, ◌≡◌, ◌∷◌, Some, is_none, is_some, true, false}
+use Rattle.std.specs.Prelude.{ℕ, suc, ◌≡◌, List, ◌∷◌, Some, is_none, is_some, true, false}
 use Rattle.cta_site.specs.declared.site.Site.{Site}
 use Rattle.cta_model.specs.declared.entries.Entry.{Entry}
+use Rattle.cta_model.specs.declared.asks.Job.{Job}
+use Rattle.cta_model.specs.declared.reports.ItemState.{ItemState}
+use Rattle.cta_model.specs.declared.states.RequestFile.{RequestFile}
+use Rattle.cta_model.specs.declared.states.StageFile.{StageFile}
 use Rattle.cta_model.specs.History.{History, has_number}
 use Rattle.cta_model.specs.Files.{path_of}
 use Rattle.cta_model.specs.Mounts.{has_copy}
@@ -10,8 +14,8 @@ use Rattle.cta_model.specs.Jobs.{archive_birth}
 use Rattle.cta_model.specs.Repacks.{is_repack_live}
 use Rattle.cta_model.specs.Legal.{IsLegal}
 use Rattle.cta_laws.specs.Stages.{takes_path}
-use Rattle.part_values.specs.Requests.{Requests}
-use Rattle.part_values.specs.Repacks.{Repacks, is_live_in}
+use Rattle.part_values.specs.Requests.{Requests, RequestsAgree, add_request, remove_request, turn_request}
+use Rattle.part_values.specs.Repacks.{Repacks, RepacksAgree, add_repack, is_live_in, set_state}
 use Rattle.book_steps.specs.Books.{AreRepacks, AreRequests}
 use Rattle.book_steps.specs.Calls.{RepacksCalled, RequestsCalled, copies_ended, recalls_ended}
 
@@ -43,3 +47,22 @@ CallsMoveRepacks =
 -- a book of repacks that stands for a history tells whether a repack of the tape is live
 abbrev pub RepacksTellLive : Type 0
 RepacksTellLive = (site : Site) (h : History) (v : Repacks) (t : ℕ) → AreRepacks site h v → is_live_in v t ≡ is_repack_live site h t
+
+-- what calls of two books of stage requests leave: the books tell the same again. `start`, `finish` and `release` turn the files of a request
+pub record AreRequestCallsSame (v w : Requests) : Type 0 where
+  pub added : (id at : ℕ) (files : List StageFile) → RequestsAgree (add_request id at files v) (add_request id at files w)
+  pub turned : (id : ℕ) (turn : RequestFile → RequestFile) → RequestsAgree (turn_request id turn v) (turn_request id turn w)
+  pub removed : (id : ℕ) → RequestsAgree (remove_request id v) (remove_request id w)
+
+-- the same call leaves two books of stage requests that tell the same so that they do again
+abbrev pub RequestCallsAgree : Type 0
+RequestCallsAgree = (v w : Requests) → RequestsAgree v w → AreRequestCallsSame v w
+
+-- what calls of two books of repacks leave: the books tell the same again
+pub record AreRepackCallsSame (v w : Repacks) : Type 0 where
+  pub added : (id tape : ℕ) (jobs : List Job) → RepacksAgree (add_repack id tape jobs v) (add_repack id tape jobs w)
+  pub set : (id f c : ℕ) (s : ItemState) → RepacksAgree (set_state id f c s v) (set_state id f c s w)
+
+-- the same call leaves two books of repacks that tell the same so that they do again
+abbrev pub RepackCallsAgree : Type 0
+RepackCallsAgree = (v w : Repacks) → RepacksAgree v w → AreRepackCallsSame v w

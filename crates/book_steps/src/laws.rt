@@ -1,5 +1,7 @@
 // Laws of the calls of the books.
 ghost use Rattle.book_steps.specs.Laws.{
+  RepackCallsAgree,
+  RequestCallsAgree,
   CallsMoveRepacks,
   CallsMoveRequests,
   CopiesEndAsTold,
@@ -32,4 +34,14 @@ pub fn calls_move_repacks()
 /// A book of repacks tells which tapes have a live repack. This project's own.
 pub fn repacks_tell_live()
     ensures { RepacksTellLive }
+{}
+
+/// The same call leaves two books of stage requests that tell the same so that they do again. This project's own.
+pub fn request_calls_agree()
+    ensures { RequestCallsAgree }
+{}
+
+/// The same call leaves two books of repacks that tell the same so that they do again. This project's own.
+pub fn repack_calls_agree()
+    ensures { RepackCallsAgree }
 {}

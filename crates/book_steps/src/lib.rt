@@ -6,5 +6,5 @@ mod laws;
 
 pub use laws::{
     calls_move_repacks, calls_move_requests, copies_end_as_told, recalls_end_as_told,
-    repacks_tell_live,
+    repack_calls_agree, repacks_tell_live, request_calls_agree,
 };

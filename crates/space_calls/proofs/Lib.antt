@@ -4,3 +4,4 @@ pub mod FileAsks
 pub mod PinAsks
 pub mod ReadAsks
 pub mod BufferLaw
+pub mod SameBuffers

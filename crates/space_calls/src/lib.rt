@@ -3,4 +3,4 @@
 
 mod laws;
 
-pub use laws::{calls_keep_pins_held, calls_move_buffer};
+pub use laws::{buffer_calls_agree, calls_keep_pins_held, calls_move_buffer};
