@@ -1,0 +1,8 @@
+//! The archive queues: for each tape pool, the lines of the jobs that wait to be written to its tapes.
+#![tactic(auto)]
+
+mod queue;
+#[cfg(test)]
+mod tests;
+
+pub use queue::ArchiveQueue;

@@ -1,0 +1,34 @@
+use Rattle.std.proofs.Common.{refl, ◌∙◌}
+use Rattle.drive_session.proofs.Lawful.{flush_leads, flush_fails}
+use Rattle.drive_session.proofs.Steps.{after, flush_fits, flush_safe, flush_charges, flush_fault_fits, only_fault, loaded_flush, flush_records, answered_by}
+use Rattle.drive_session.proofs.writing.flush_step.Goals as goal
+
+pub returns-in-Ok : goal.returns-in-Ok
+returns-in-Ok g c = record {
+  device = c.in-Ok.ensures.drive;
+  read = tt;
+  loaded = c.in-Ok.ensures.drive.loaded ∙ c.requires.loaded;
+  waits = refl;
+  asked = refl;
+  charged = tt;
+  safe = flush_safe g.D.Medium.Told.told c.args.number c.args.x c.args.b c.flush.new.medium c.requires.all c.in-Ok.ensures.records c.requires.fits;
+  kept = tt;
+  lawful = flush_leads c.args.b.items.items c.args.b.at (after c.args.x c.flush.new.medium) c.requires.all c.requires.fits.1.1.state.batch.way;
+  fits = flush_fits g.D.Medium.Told.told c.args.number c.args.x c.args.b c.flush.new.medium c.requires.all c.in-Ok.ensures.records;
+}
+
+pub returns-in-Err : goal.returns-in-Err
+returns-in-Err g c =
+    let fault = only_fault c.flush.result c.in-Err.field-0 c.in-Err.is c.flush.ensures.memory in
+    record {
+      device = answered_by _ _ _ _ _ fault c.flush.ensures.drive;
+      read = tt;
+      loaded = loaded_flush _ _ _ c.flush.ensures.drive c.requires.loaded;
+      waits = refl;
+      asked = refl;
+      charged = flush_charges g.D.Medium.Told.told c.args.number c.args.x c.args.b c.of.result c.of-in-Err.result c.of.ensures.items (c.of-in-Err.ensures.items ∙ c.clear.ensures.items) c.requires.fits;
+      safe = tt;
+      kept = tt;
+      lawful = λ a k. (flush_fails c.args.b.items.items c.args.b.at c.requires.all, refl);
+      fits = flush_fault_fits g.D.Medium.Told.told c.args.number c.args.x c.args.b c.flush.new.medium _ c.of.result c.of-in-Err.result c.of.ensures.items (c.of-in-Err.ensures.items ∙ c.clear.ensures.items) (flush_records _ _ _ fault c.flush.ensures.records);
+    }

@@ -1,0 +1,7 @@
+pub mod Answers
+pub mod Lawful
+pub mod Records
+pub mod Fits
+pub mod Steps
+pub mod Works
+pub mod Examples

@@ -1,0 +1,210 @@
+-- What one step of a session keeps.
+use Rattle.std.specs.Prelude.{ℕ, ◌+◌, ◌≡◌, ◌≢◌, ◌<◌, ⊤, length, List, [], ◌++◌, take, drop, slice_get, Option, Some, None, IfSome, IsSome, Ok, Bool, true, false}
+use Rattle.blob.specs.declared.sum.Sum256.{Sum256}
+use Rattle.blob.specs.Records.{TapeRecords}
+use Rattle.blob.specs.Sums.{sum_of}
+use Rattle.cta_site.specs.declared.site.CallKind.{CallKind}
+use Rattle.cta_site.specs.declared.site.CallKind.TheVariants as kind
+use Rattle.cta_site.specs.declared.site.Site.{Site}
+use Rattle.cta_model.specs.declared.answers.Answer.{Answer}
+use Rattle.cta_model.specs.declared.asks.Ask.{Ask}
+use Rattle.cta_model.specs.declared.asks.Ask.TheVariants as ask
+use Rattle.cta_model.specs.declared.asks.Fault.{Fault}
+use Rattle.cta_model.specs.declared.asks.Fault.TheVariants as fault
+use Rattle.cta_model.specs.declared.asks.Item.{Item}
+use Rattle.cta_model.specs.declared.asks.Job.{Job}
+use Rattle.cta_model.specs.declared.hands.Hand.{Hand}
+use Rattle.cta_model.specs.History.{History}
+use Rattle.cta_model.specs.Mounts.{item_jobs}
+use Rattle.media.specs.declared.drive.DeviceErr.{DeviceErr}
+use Rattle.media.specs.declared.drive.DeviceErr.TheVariants as err
+use Rattle.media.specs.Drives.{DriveView, HasAnswered}
+use Rattle.media.specs.Reads.{HasRead}
+use Rattle.drive_session.specs.declared.reports.Call.{Call}
+use Rattle.drive_session.specs.declared.reports.Call.TheVariants as call
+use Rattle.drive_session.specs.declared.reports.Done.{Done}
+use Rattle.drive_session.specs.declared.reports.Done.TheVariants as done
+use Rattle.drive_session.specs.declared.reports.StepLine.TheVariants as line
+use Rattle.drive_session.specs.declared.states.Asked.{Asked}
+use Rattle.drive_session.specs.declared.states.Asked.TheVariants as asked
+use Rattle.drive_session.specs.declared.states.Mounted.{Mounted}
+use Rattle.drive_session.specs.declared.states.State.{State}
+use Rattle.drive_session.specs.declared.states.State.TheVariants as state
+use Rattle.drive_session.specs.declared.states.Step.{Step}
+use Rattle.drive_session.specs.Answers.{is_asking, line_after, state_after}
+use Rattle.drive_session.specs.Fits.{FitsOpen, FitsState}
+use Rattle.drive_session.specs.Lawful.{Follows, IsSaid, Standing, standing_of}
+use Rattle.drive_session.specs.Records.{AreSafe}
+
+-- ---- the device
+
+-- the kind of a call
+abbrev pub kind_of : Call → CallKind
+kind_of call.Load = kind.Load
+kind_of (call.Write s) = kind.Write
+kind_of call.Flush = kind.Flush
+kind_of (call.Read s) = kind.Read
+kind_of call.Unload = kind.Unload
+
+-- whether an error is want of memory
+abbrev pub is_no_memory : DeviceErr → Bool
+is_no_memory err.Fault = false
+is_no_memory err.NoMemory = true
+
+-- the sums are the same where the test says so, and differ where it doesn't
+abbrev pub AreSameIf : Bool → Sum256 → Sum256 → Type 0
+AreSameIf true a b = a ≡ b
+AreSameIf false a b = a ≢ b
+
+-- a write and a read may want memory
+abbrev pub MayWant : Call → Type 0
+MayWant (call.Write s) = ⊤
+MayWant (call.Read s) = ⊤
+MayWant _ = ⊥
+
+-- what is told of the device is what one call of that kind answered, and without it no call was made or it wanted memory
+abbrev pub HasDone : DriveView → DriveView → Option Done → Type 0
+HasDone old new None = new ≡ old
+HasDone old new (Some (done.Ok c)) = HasAnswered (kind_of c) old new None
+HasDone old new (Some (done.Fault c)) = HasAnswered (kind_of c) old new (Some err.Fault)
+HasDone old new (Some (done.Mismatch found wanted)) = (found ≢ wanted) × HasAnswered kind.Read old new None
+HasDone old new (Some (done.NoMemory c)) = MayWant c × (new ≡ old)
+
+-- no mismatch is told
+abbrev pub NoMismatch : Option Done → Type 0
+NoMismatch (Some (done.Mismatch found wanted)) = ⊥
+NoMismatch _ = ⊤
+
+-- the fSeq s was read, and what was read has this sum
+abbrev pub WasRead : {M : Type 0} → (M → Option TapeRecords) → Mounted M → DriveView → ℕ → Sum256 → Type 0
+WasRead told x old s sum = (bytes : List ℕ) × ((sum_of bytes ≡ sum) × HasRead old (told x.medium) s (Ok bytes))
+
+-- a read that succeeds gave the sum of its item, and one that is told as a mismatch gave another
+abbrev pub HasGiven : {M : Type 0} → (M → Option TapeRecords) → Mounted M → DriveView → Option Item → Option Done → Type 0
+HasGiven told x old (Some i) (Some (done.Ok (call.Read s))) = (s ≡ i.fseq) × WasRead told x old i.fseq i.sum
+HasGiven told x old (Some i) (Some (done.Mismatch found wanted)) = (wanted ≡ i.sum) × WasRead told x old i.fseq found
+HasGiven told x old _ _ = ⊤
+
+-- in Reading what was read is told truly, and an honest drive gives no mismatch of a medium that tells; in all other states nothing is read
+abbrev pub IsReadTruly : {M : Type 0} → (M → Option TapeRecords) → DriveView → State M → Option Done → Type 0
+IsReadTruly told old (state.Reading x items at) e = HasGiven told x old (slice_get items.items at) e × (old.honest ≡ true → IsSome (told x.medium) → NoMismatch e)
+IsReadTruly told old _ e = NoMismatch e
+
+-- ---- the ask
+
+-- what the device has answered where this is asked
+abbrev pub IsAskedAfter : {M : Type 0} → Option (Ask × Hand M) → Option Done → Type 0
+IsAskedAfter None e = ⊤
+IsAskedAfter (Some (ask.Next d, k)) e = e ≡ None
+IsAskedAfter (Some (ask.Claim m, k)) e = e ≡ None
+IsAskedAfter (Some (ask.Flushed m items, k)) e = e ≡ Some (done.Ok call.Flush)
+IsAskedAfter (Some (ask.Recalled m job, k)) e = (s : ℕ) × (e ≡ Some (done.Ok (call.Read s)))
+IsAskedAfter (Some (ask.Failed m fault.Write charged returned, k)) e = (s : ℕ) × (e ≡ Some (done.Fault (call.Write s)))
+IsAskedAfter (Some (ask.Failed m fault.Flush charged returned, k)) e = e ≡ Some (done.Fault call.Flush)
+IsAskedAfter (Some (ask.Failed m fault.Read charged returned, k)) e = (s : ℕ) × (e ≡ Some (done.Fault (call.Read s)))
+IsAskedAfter (Some (ask.Failed m (fault.Mismatch found wanted) charged returned, k)) e = e ≡ Some (done.Mismatch found wanted)
+IsAskedAfter (Some (ask.End m None, k)) e = e ≡ Some (done.Ok call.Unload)
+IsAskedAfter (Some (ask.End m (Some fault.Load), k)) e = e ≡ Some (done.Fault call.Load)
+IsAskedAfter (Some (ask.End m (Some fault.Unload), k)) e = e ≡ Some (done.Fault call.Unload)
+IsAskedAfter _ e = ⊥
+
+-- the job at a place alone, none where there is no such place
+abbrev pub one_at : List Job → ℕ → List Job
+one_at jobs n = take 1 (drop n jobs)
+
+-- the jobs but the one at a place
+abbrev pub others_at : List Job → ℕ → List Job
+others_at jobs n = take n jobs ++ drop (n + 1) jobs
+
+-- the jobs that a fault charges, and those that it returns: a write charges the item that failed and returns all others of the batch, a flush charges all
+abbrev pub batch_charges : List Job → ℕ → Fault → Option (List Job × List Job)
+batch_charges jobs n fault.Write = Some (one_at jobs n, others_at jobs n)
+batch_charges jobs n fault.Flush = Some (jobs, [])
+batch_charges jobs n _ = None
+
+-- a read charges its item alone, and so does a mismatch
+abbrev pub read_charges : List Job → ℕ → Fault → Option (List Job × List Job)
+read_charges jobs n fault.Read = Some (one_at jobs n, [])
+read_charges jobs n (fault.Mismatch found wanted) = Some (one_at jobs n, [])
+read_charges jobs n _ = None
+
+-- what a fault charges and returns in a state
+abbrev pub charges_in : {M : Type 0} → State M → Fault → Option (List Job × List Job)
+charges_in (state.Claimed x items blobs) f = batch_charges (item_jobs items.items) 0 f
+charges_in (state.Writing x b) f = batch_charges (item_jobs b.items.items) b.at f
+charges_in (state.Reading x items at) f = read_charges (item_jobs items.items) at f
+charges_in _ f = None
+
+-- a Failed names what its fault charges and returns
+abbrev pub IsCharged : {M : Type 0} → State M → Option (Ask × Hand M) → Type 0
+IsCharged before (Some (ask.Failed m f charged returned, k)) = charges_in before f ≡ Some (charged.items, returned.items)
+IsCharged before _ = ⊤
+
+-- each of these items has a safe record on the medium of a ready mount, where it tells
+abbrev pub AreSafeIn : {M : Type 0} → (M → Option TapeRecords) → State M → List Item → Type 0
+AreSafeIn told (state.Ready x) items = IfSome (told x.medium) (λ t. AreSafe t items)
+AreSafeIn told _ items = ⊥
+
+-- a Flushed names items that each have a safe record
+abbrev pub IsFlushedSafe : {M : Type 0} → (M → Option TapeRecords) → State M → Option (Ask × Hand M) → Type 0
+IsFlushedSafe told s (Some (ask.Flushed m items, k)) = AreSafeIn told s items.items
+IsFlushedSafe told s _ = ⊤
+
+-- ---- the state
+
+-- whether the drive is loaded in a state
+abbrev pub is_loaded_in : {M : Type 0} → State M → Bool
+is_loaded_in state.Free = false
+is_loaded_in (state.Held x) = false
+is_loaded_in _ = true
+
+-- the mount is the same, and its medium tells the same
+pub record IsSameMount {M : Type 0} (told : M → Option TapeRecords) (x y : Mounted M) : Type 0 where
+  pub mount : y.mount ≡ x.mount
+  pub direction : y.direction ≡ x.direction
+  pub tape : y.tape ≡ x.tape
+  pub medium : told y.medium ≡ told x.medium
+
+-- a batch is as it was, with an item left; before the first write its lists may have been made
+abbrev pub IsAsBefore : {M : Type 0} → (M → Option TapeRecords) → State M → State M → Type 0
+IsAsBefore told (state.Claimed x items blobs) (state.Claimed y more others) = IsSameMount told x y × (more ≡ items) × (others ≡ blobs)
+IsAsBefore told (state.Claimed x items blobs) (state.Writing y b) = IsSameMount told x y × (b.items ≡ items) × (b.blobs ≡ blobs) × (b.at ≡ 0)
+IsAsBefore told (state.Writing x b) (state.Writing y c) = IsSameMount told x y × (c ≡ b) × (b.at < length b.items.items)
+IsAsBefore told (state.Reading x items at) (state.Reading y more n) = IsSameMount told x y × (more ≡ items) × (n ≡ at) × (at < length items.items)
+IsAsBefore told _ _ = ⊥
+
+-- after a want of memory the session is as it was: only a write or a read may want any
+abbrev pub IsKeptAt : {M : Type 0} → (M → Option TapeRecords) → State M → Asked → State M → Type 0
+IsKeptAt told before (asked.Nothing line.Memory) s = IsAsBefore told before s
+IsKeptAt told before _ s = ⊤
+
+-- what a state or an open ask says of a history
+abbrev pub FitsReport : {M : Type 0} → (M → Option TapeRecords) → Site → History → ℕ → State M → Asked → Option (Ask × Hand M) → Type 0
+FitsReport told site h d s w None = FitsState told site h d s
+FitsReport told site h d s w (Some (a, k)) = FitsOpen told site h d s w a k
+
+-- the state fits some history
+abbrev pub FitsSome : {M : Type 0} → (M → Option TapeRecords) → ℕ → State M → Type 0
+FitsSome told d s = (site : Site) × ((h : History) × FitsState told site h d s)
+
+-- whatever is answered, the line follows, and says what the device answered
+abbrev pub LeadsOn : {M : Type 0} → Standing → Asked → State M → Option Done → Type 0
+LeadsOn {M = M} from w s e = (a : Answer) (k : Hand M) → Follows from (line_after w s a k) (standing_of (state_after w s a k)) × IsSaid (line_after w s a k) e
+
+-- whether something is asked
+abbrev pub has_ask : {M : Type 0} → Option (Ask × Hand M) → Bool
+has_ask None = false
+has_ask (Some q) = true
+
+-- what a step of a state keeps
+pub record IsStep {M : Type 0} (told : M → Option TapeRecords) (d : ℕ) (before : State M) (old new : DriveView) (s : Step M) : Type 0 where
+  pub device : HasDone old new s.report.device
+  pub read : IsReadTruly told old before s.report.device
+  pub loaded : new.loaded ≡ is_loaded_in s.state
+  pub waits : is_asking s.asked ≡ has_ask s.report.ask
+  pub asked : IsAskedAfter s.report.ask s.report.device
+  pub charged : IsCharged before s.report.ask
+  pub safe : IsFlushedSafe told s.state s.report.ask
+  pub kept : IsKeptAt told before s.asked s.state
+  pub lawful : LeadsOn (standing_of before) s.asked s.state s.report.device
+  pub fits : (site : Site) (h : History) → FitsState told site h d before → FitsReport told site h d s.state s.asked s.report.ask

@@ -1,0 +1,11 @@
+use Rattle.std.proofs.Common.{ap}
+use Rattle.part_values.specs.Room.{Roomed}
+use Rattle.part_values.specs.JobRows.{JobRows}
+use Rattle.job_book.specs.Maps.{Maps}
+use Rattle.job_book.proofs.Changes.{end_archive-tells}
+use Rattle.job_book.proofs.book.JobBook.end.Goals as goal
+
+pub returns-else-job-eq0-clause-book : goal.returns-else-job-eq0-clause-book
+returns-else-job-eq0-clause-book c =
+    let m : Maps = record { waiting = c.self.inside.waiting.entries; recalls = c.self.inside.recalls.entries; archives = c.self.inside.archives.entries; births = c.self.inside.births.entries; claims = c.self.inside.claims.entries; counts = c.self.inside.counts.entries; charges = c.self.inside.charges.entries; named = c.self.inside.named.entries } in
+    end_archive-tells m c.args.self.now.value c.take_out.new.map.entries c.args.job (ap (λ (v : Roomed JobRows). v.value) c.self.view_is) c.if-job-eq0.false c.take_out.ensures.values

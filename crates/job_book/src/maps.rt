@@ -1,0 +1,48 @@
+// Maps with room for more.
+ghost use Rattle.std.specs.Prelude.{◌≡◌, ◌==◌, ◌+◌, ◌<◌, ◌≤◌, Some, None, if◌then◌else◌, OnOk};
+ghost use Rattle.std.specs.HashMap.{get, spare, values, IsUnique};
+ghost use Rattle.std.specs.List.{list_any};
+ghost use Rattle.job_book.specs.Maps.{is_key};
+
+use cta_site::NoMemory;
+use std::collections::HashMap;
+use std::hash::Hash;
+
+// Makes room for so many more keys.
+pub(crate) fn make_room<K: Eq + Hash, V>(map: &mut HashMap<K, V>, more: u32) -> Result<(), NoMemory>
+    ensures values { (q : K) → get K.eq map.new q ≡ get K.eq map.old q }
+    ensures room { OnOk result (more ≤ spare map.new) }
+    ensures kept { spare map.old ≤ spare map.new }
+{
+    map.reserve(more as usize)?;
+    Ok(())
+}
+
+// Puts a value at a key, for which there is room.
+pub(crate) fn put<K: Eq + Hash + Drop, V: Drop>(map: &mut HashMap<K, V>, key: K, value: V)
+    requires { 0 < spare map.old }
+    ensures values { (q : K) → get K.eq map.new q ≡ (if K.eq key q then Some value else get K.eq map.old q) }
+    ensures room { spare map.old ≤ spare map.new + 1 }
+{
+    match map.insert(key, value) {
+        Ok(_) => {}
+        Err(_) => unreachable!(),
+    }
+}
+
+// Takes a key out.
+pub(crate) fn take_out<K: Eq + Hash + Drop, V: Drop>(map: &mut HashMap<K, V>, key: K)
+    ensures values { (q : K) → get K.eq map.new q ≡ (if K.eq key q then None else get K.eq map.old q) }
+    ensures room { spare map.old ≤ spare map.new }
+{
+    let _ = map.remove(&key);
+}
+
+// Whether a claim is of this mount.
+pub(crate) fn any_claim(claims: &HashMap<(u32, u32, u8), u32>, mount: u32) -> bool
+    ensures any { result ≡ list_any (λ m. m == mount) (values claims.now) }
+    ensures unique { IsUnique is_key claims.now }
+{
+    let _count = claims.len();
+    claims.values().any(|claimer| *claimer == mount)
+}

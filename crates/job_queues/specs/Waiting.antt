@@ -1,0 +1,42 @@
+-- Lines of the trees, and what the calls on queues tell.
+use Rattle.std.specs.Prelude.{ℕ, ◌≡◌, ◌==◌, List, [], Bool, true, false, Option, Some, None, length, map, sum_by}
+use Rattle.std.specs.List.{list_any}
+use Rattle.cta_model.specs.declared.asks.Job.{Job}
+use Rattle.cta_model.specs.Mounts.{has_job}
+use Rattle.part_values.specs.declared.jobs.Line.{Line}
+use Rattle.part_values.specs.Queues.{Queues, lines_in}
+use Rattle.job_queues.specs.declared.queued.Queued.{Queued}
+
+-- the line that waits
+abbrev pub line_of : Queued → Line
+line_of q = record { job = q.job; len = q.len; born = q.born; priority = q.priority; age = q.age }
+
+-- the lines that wait in a tree
+abbrev pub lines_of : List Queued → List Line
+lines_of qs = map line_of qs
+
+-- the lines of all trees
+abbrev pub queues_of : List (List Queued) → Queues
+queues_of trees = map lines_of trees
+
+-- the bytes of lines
+abbrev pub bytes_of : List Line → ℕ
+bytes_of ls = sum_by (λ (l : Line). l.len) ls
+
+-- the jobs of lines
+abbrev pub jobs_of : List Line → List Job
+jobs_of ls = map (λ (l : Line). l.job) ls
+
+-- so many keys, none with a line
+pub record AreStarted (keys : ℕ) (queues : Queues) : Type 0 where
+  pub many : length queues ≡ keys
+  pub empty : (k : ℕ) → lines_in queues k ≡ []
+
+-- whether a line's job was born by this entry
+abbrev pub has_birth : ℕ → List Line → Bool
+has_birth birth ls = list_any (λ (l : Line). birth == l.job.birth) ls
+
+-- a job of these that was born by the entry, or none where there is none
+abbrev pub IsOfBirth : ℕ → List Line → Option Job → Type 0
+IsOfBirth birth ls None = has_birth birth ls ≡ false
+IsOfBirth birth ls (Some job) = (job.birth ≡ birth) × (has_job job (jobs_of ls) ≡ true)

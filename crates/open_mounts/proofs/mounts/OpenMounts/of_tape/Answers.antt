@@ -1,0 +1,8 @@
+use Rattle.std.proofs.Common.{rules, Bor}
+use Rattle.std.specs.Prelude.{◌==◌}
+use Rattle.part_values.specs.declared.mounts.OpenMount.{OpenMount}
+use Rattle.open_mounts.proofs.RowCalls.{some_found}
+use Rattle.open_mounts.proofs.mounts.OpenMounts.of_tape.Goals as goal
+
+pub returns-clause-there : goal.returns-clause-there
+returns-clause-there c = some_found (λ (b : Bor OpenMount). b.now) c.of_tape.result (λ (r : OpenMount). r.tape == c.args.tape) c.args.self.now.value.rows (search rules)

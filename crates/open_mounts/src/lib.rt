@@ -1,0 +1,11 @@
+//! The table of open mounts, and of the drives that are down.
+#![tactic(auto)]
+
+mod flags;
+mod mounts;
+mod rows;
+
+pub use mounts::OpenMounts;
+
+#[cfg(test)]
+mod tests;

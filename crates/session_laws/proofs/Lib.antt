@@ -1,0 +1,6 @@
+pub mod Stays
+pub mod Fit
+pub mod Answered
+pub mod Sources
+pub mod Claimed
+pub mod Behind

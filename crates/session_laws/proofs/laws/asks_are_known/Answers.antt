@@ -1,0 +1,5 @@
+use Rattle.session_laws.proofs.Fit as law
+use Rattle.session_laws.proofs.laws.asks_are_known.Goals as goal
+
+pub returns : goal.returns
+returns g c = law.asks_are_known g.D.Medium.Told.told

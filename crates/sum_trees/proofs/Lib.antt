@@ -1,0 +1,10 @@
+pub mod Places
+pub mod Standing
+pub mod Forks
+pub mod Turns
+pub mod Orders
+pub mod Enters
+pub mod Cuts
+pub mod Searched
+pub mod Stands
+pub mod Grown

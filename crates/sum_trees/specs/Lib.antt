@@ -1,0 +1,9 @@
+pub mod Sums
+pub mod Nodes
+pub mod Around
+pub mod Trees
+pub mod Order
+pub mod Changes
+pub mod Searches
+pub mod Groves
+pub mod Forests

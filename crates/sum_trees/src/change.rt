@@ -1,0 +1,120 @@
+// Items that enter a tree and leave it.
+ghost use Rattle.sum_trees.specs.Changes.{CanEnter, Entered, CanJoin, Joined, CutFirst, CutLike};
+ghost use Rattle.sum_trees.specs.Trees.{IsRoot};
+
+use crate::balance::balance;
+use crate::nodes::{NOWHERE, Node, fork, node_of};
+use crate::summed::Summed;
+
+// An item that was cut out of a tree, the place of its node, and the place of the tree of the others.
+#[derive(Clone, Copy)]
+pub(crate) struct Cut<T> {
+    pub(crate) place: u32,
+    pub(crate) item: T,
+    pub(crate) rest: u32,
+}
+
+// Puts an item into a tree at its place in the order, with the node at a place. The place of the whole.
+pub(crate) fn enter<T: Summed>(nodes: &mut [Node<T, T::Sum>], root: u32, at: u32, item: T) -> u32
+    requires { CanEnter T.sums T.before nodes.old root at item }
+    ensures { Entered T.sums T.before nodes.old nodes.new root at item result }
+{
+    match node_of(nodes, root) {
+        None => {
+            fork(nodes, at, item, NOWHERE, NOWHERE);
+            at
+        }
+        Some(node) => {
+            if item.is_before(&node.item) {
+                let left = enter(nodes, node.left, at, item);
+                return balance(nodes, root, node.item, left, node.right);
+            }
+            let right = enter(nodes, node.right, at, item);
+            balance(nodes, root, node.item, node.left, right)
+        }
+    }
+}
+
+// Cuts out the first item, where there is one.
+pub(crate) fn cut_first<T: Summed>(nodes: &mut [Node<T, T::Sum>], root: u32) -> Option<Cut<T>>
+    requires { IsRoot T.sums nodes.old root }
+    ensures { CutFirst T.sums nodes.old nodes.new root result }
+{
+    match node_of(nodes, root) {
+        None => None,
+        Some(node) => match cut_first(nodes, node.left) {
+            None => Some(Cut {
+                place: root,
+                item: node.item,
+                rest: node.right,
+            }),
+            Some(cut) => {
+                let rest = balance(nodes, root, node.item, cut.rest, node.right);
+                Some(Cut {
+                    place: cut.place,
+                    item: cut.item,
+                    rest,
+                })
+            }
+        },
+    }
+}
+
+// The tree of two trees, the first before the second. Its place.
+fn join<T: Summed>(nodes: &mut [Node<T, T::Sum>], left: u32, right: u32) -> u32
+    requires { CanJoin T.sums nodes.old left right }
+    ensures { Joined T.sums nodes.old nodes.new left right result }
+{
+    match cut_first(nodes, right) {
+        None => left,
+        Some(cut) => balance(nodes, cut.place, cut.item, left, cut.rest),
+    }
+}
+
+// Cuts out the item that is like this one, where there is one.
+pub(crate) fn cut_like<T: Summed>(
+    nodes: &mut [Node<T, T::Sum>],
+    root: u32,
+    like: T,
+) -> Option<Cut<T>>
+    requires { IsRoot T.sums nodes.old root }
+    ensures { CutLike T.sums T.before like nodes.old nodes.new root result }
+{
+    match node_of(nodes, root) {
+        None => None,
+        Some(node) => {
+            if like.is_before(&node.item) {
+                return match cut_like(nodes, node.left, like) {
+                    None => None,
+                    Some(cut) => {
+                        let rest = balance(nodes, root, node.item, cut.rest, node.right);
+                        Some(Cut {
+                            place: cut.place,
+                            item: cut.item,
+                            rest,
+                        })
+                    }
+                };
+            }
+            if node.item.is_before(&like) {
+                return match cut_like(nodes, node.right, like) {
+                    None => None,
+                    Some(cut) => {
+                        let rest = balance(nodes, root, node.item, node.left, cut.rest);
+                        Some(Cut {
+                            place: cut.place,
+                            item: cut.item,
+                            rest,
+                        })
+                    }
+                };
+            }
+            let rest = join(nodes, node.left, node.right);
+            Some(Cut {
+                place: root,
+                item: node.item,
+                rest,
+            })
+        }
+    }
+}

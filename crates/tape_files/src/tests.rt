@@ -1,0 +1,86 @@
+use super::*;
+use cta_model::{Fate, Item, Job, Sum256};
+use cta_site::{SiteError, TapeState, ValidSite};
+use site_json::read_site;
+use std::alloc::Global;
+use std::process::Abort;
+use std::test::Fail;
+
+// The file of a site of two tapes and no drive.
+const SITE: &str =
+    r#"{"version":1,"sitename":"s","endpoint":"e","defaultPolicy":"p","repackPolicy":"p","limits":{"buffer":1,"file":0,"archiveBytes":1,"retrieveBytes":1,"archiveFiles":1,"retrieveFiles":1,"batchFiles":1,"tries":1,"history":1,"lifetime":0},"vos":[{"name":"v","readDrives":1,"writeDrives":1}],"classes":[],"pools":[{"name":"p1","vo":"v"}],"routes":[],"policies":[{"name":"p","archivePriority":0,"archiveMinAge":0,"retrievePriority":0,"retrieveMinAge":0}],"libraries":["L1"],"tapes":[{"vid":"V1","pool":"p1","library":"L1","capacity":100,"state":"ACTIVE"},{"vid":"V2","pool":"p1","library":"L1","capacity":100,"state":"ACTIVE"}],"drives":[],"directories":[]}"#;
+
+// That site.
+fn valid_site(alloc: Global) -> Result<ValidSite, SiteError> {
+    let site = read_site(alloc, SITE.as_bytes())?;
+    site.check(alloc)
+}
+
+// An item for a copy of the file 7.
+fn item(copy: u8) -> Item {
+    Item {
+        job: Job {
+            birth: 1,
+            file: 7,
+            copy,
+        },
+        fseq: 1,
+        sum: Sum256 {
+            len: 5,
+            digest: [0; 32],
+        },
+    }
+}
+
+// Flushes a copy of the file 7 to a tape.
+fn flush(rt: &impl Abort, table: &mut TapeFiles, tape: u32, copy: u8, fate: Fate, fseq: u32) {
+    assert!(rt; (tape as usize) < table.tapes());
+    assert!(rt; table.room() > 0);
+    assert_eq!(rt; table.row(tape).next, fseq);
+    assert!(rt; fseq < 9);
+    assert_eq!(rt; table.flushed(tape, item(copy), fate), fseq);
+}
+
+// On which tape the first source of the file 7 is, and how many copies are on the first tape.
+fn compare(rt: &impl Abort, table: &TapeFiles, source: Option<u32>, live: usize) {
+    assert_eq!(rt; table.place_at(7, 0).map(|place| place.tape), source);
+    assert_eq!(rt; table.live(0), live);
+}
+
+// Changes a state.
+fn set(rt: &impl Abort, table: &mut TapeFiles, tape: u32, state: TapeState) {
+    assert!(rt; (tape as usize) < table.tapes());
+    table.set_state(tape, state);
+    assert_eq!(rt; table.row(tape).state, state);
+}
+
+// Bytes are claimed and given up, and the tape is written anew.
+fn claim(rt: &impl Abort, table: &mut TapeFiles) {
+    assert!(rt; table.tapes() == 2);
+    assert_eq!(rt; table.row(0).used, 0);
+    table.claim(0, 9);
+    table.unclaim(0, 4);
+    assert_eq!(rt; table.row(0).used, 5);
+    table.reclaim(0);
+    assert_eq!(rt; table.row(0).used, 0);
+    assert_eq!(rt; table.row(0).next, 1);
+}
+
+#[test]
+fn places_come_and_go(rt: HostRuntime) -> Result<(), Fail> {
+    let mut table = TapeFiles::new(rt.alloc(), &valid_site(rt.alloc())?)?;
+    table.reserve(3)?;
+    flush(&rt, &mut table, 0, 1, Fate::Done, 1);
+    flush(&rt, &mut table, 1, 2, Fate::Done, 1);
+    flush(&rt, &mut table, 0, 3, Fate::Stale, 2);
+    compare(&rt, &table, Some(0), 1);
+    set(&rt, &mut table, 0, TapeState::Disabled);
+    compare(&rt, &table, Some(1), 1);
+    set(&rt, &mut table, 1, TapeState::Broken);
+    compare(&rt, &table, Some(0), 1);
+    assert!(rt; table.is_whole(7, 1) && !table.is_whole(7, 2));
+    table.drop_file(7);
+    compare(&rt, &table, None, 0);
+    claim(&rt, &mut table);
+    Ok(())
+}
