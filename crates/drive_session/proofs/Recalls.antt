@@ -36,7 +36,7 @@ use Rattle.drive_session.specs.Answers.{line_of}
 use Rattle.drive_session.specs.Fits.{IsReading, IsResolving, FitsState, FitsOpen, FitsResolved}
 use Rattle.drive_session.specs.Lawful.{Again, Follows, IsSaid, fseqs, reading_of}
 use Rattle.drive_session.specs.Records.{AreOfFiles, AreSafe}
-use Rattle.drive_session.specs.Steps.{AreSameIf, FitsSome, HasDone, HasGiven, IsAskedAfter, IsStep, LeadsOn, NoMismatch, read_charges}
+use Rattle.drive_session.specs.Steps.{AreSameIf, FitsSome, HasDone, HasGiven, IsAskedAfter, IsChargedFor, IsStep, LeadsOn, NoMismatch, read_charges}
 use Rattle.drive_session.proofs.Lawful.{claim_leads, rest_standing}
 use Rattle.drive_session.proofs.Lists.{drop_none, drop_some, one_map, pair_same}
 use Rattle.drive_session.proofs.Resolving.{same_self, same_sym}
@@ -194,7 +194,7 @@ pub failed_step : {M : Type 0} (told : M → Option TapeRecords) (d : ℕ) (x : 
     → ((charged returned : Listed Job) → IsAskedAfter {M = M} (Some (ask.Failed x.mount f charged returned, hand.Nothing)) (Some out))
     → read_charges (item_jobs items.items) at f ≡ Some (i.job ∷ [], [])
     → Follows (reading_of (fseqs (drop at items.items))) (line_of o) (reading_of (fseqs (drop (at + 1) items.items))) → IsSaid (line_of o) (Some out)
-    → (charged : Listed Job) × ((returned : Listed Job) × ((charged.items ≡ jobs) × (returned.items ≡ []) × (s ≡ record { state = state.Reading (after x m) items (at + 1); asked = asked.Known o; report = record { device = Some out; ask = Some (ask.Failed x.mount f charged returned, hand.Nothing) } })))
+    → IsChargedFor (after x m) items (at + 1) jobs f out o s
     → IsStep told d (state.Reading x items at) old new s
 failed_step told d x m items at i f out o jobs old new s there same ej device loaded given honest cause after_it charges follows says is =
     subst (λ s. IsStep told d (state.Reading x items at) old new s) (sym is.1.1.2)

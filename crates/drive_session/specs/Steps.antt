@@ -6,6 +6,7 @@ use Rattle.blob.specs.Sums.{sum_of}
 use Rattle.cta_site.specs.declared.site.CallKind.{CallKind}
 use Rattle.cta_site.specs.declared.site.CallKind.TheVariants as kind
 use Rattle.cta_site.specs.declared.site.Site.{Site}
+use Rattle.cta_site.specs.Listed.{Listed}
 use Rattle.cta_model.specs.declared.answers.Answer.{Answer}
 use Rattle.cta_model.specs.declared.asks.Ask.{Ask}
 use Rattle.cta_model.specs.declared.asks.Ask.TheVariants as ask
@@ -14,6 +15,7 @@ use Rattle.cta_model.specs.declared.asks.Fault.TheVariants as fault
 use Rattle.cta_model.specs.declared.asks.Item.{Item}
 use Rattle.cta_model.specs.declared.asks.Job.{Job}
 use Rattle.cta_model.specs.declared.hands.Hand.{Hand}
+use Rattle.cta_model.specs.declared.hands.Hand.TheVariants as hand
 use Rattle.cta_model.specs.History.{History}
 use Rattle.cta_model.specs.Mounts.{item_jobs}
 use Rattle.media.specs.declared.drive.DeviceErr.{DeviceErr}
@@ -28,6 +30,7 @@ use Rattle.drive_session.specs.declared.reports.StepLine.TheVariants as line
 use Rattle.drive_session.specs.declared.states.Asked.{Asked}
 use Rattle.drive_session.specs.declared.states.Asked.TheVariants as asked
 use Rattle.drive_session.specs.declared.states.Mounted.{Mounted}
+use Rattle.drive_session.specs.declared.states.Outcome.{Outcome}
 use Rattle.drive_session.specs.declared.states.State.{State}
 use Rattle.drive_session.specs.declared.states.State.TheVariants as state
 use Rattle.drive_session.specs.declared.states.Step.{Step}
@@ -134,6 +137,11 @@ charges_in (state.Claimed x items blobs) f = batch_charges (item_jobs items.item
 charges_in (state.Writing x b) f = batch_charges (item_jobs b.items.items) b.at f
 charges_in (state.Reading x items at) f = read_charges (item_jobs items.items) at f
 charges_in _ f = None
+
+-- a step of a read that charges these jobs for a fault and returns none, after which the item at `next` is read
+abbrev pub IsChargedFor : {M : Type 0} → Mounted M → Listed Item → ℕ → List Job → Fault → Done → Outcome → Step M → Type 0
+IsChargedFor x items next jobs f out o s =
+    (charged : Listed Job) × ((returned : Listed Job) × ((charged.items ≡ jobs) × (returned.items ≡ []) × (s ≡ record { state = state.Reading x items next; asked = asked.Known o; report = record { device = Some out; ask = Some (ask.Failed x.mount f charged returned, hand.Nothing) } })))
 
 -- a Failed names what its fault charges and returns
 abbrev pub IsCharged : {M : Type 0} → State M → Option (Ask × Hand M) → Type 0

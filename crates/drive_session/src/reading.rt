@@ -1,13 +1,12 @@
 // The step of a batch that is read.
-ghost use Rattle.std.specs.Prelude.{◌≡◌, None, Some, [], true};
-ghost use Rattle.cta_model.specs.declared.asks.Job.{Job};
-ghost use Rattle.cta_site.specs.Listed.{Listed};
-ghost use Rattle.drive_session.specs.Steps.{FitsSome, IsStep};
+ghost use Rattle.std.specs.Prelude.{◌≡◌, None, Some, true};
+ghost use Rattle.drive_session.specs.Steps.{FitsSome, IsChargedFor, IsStep};
 
 use crate::claims::{is_no_memory, is_same, item_at};
 use crate::mounts::claim_step;
 use crate::reports::{Call, Done, Report, StepLine};
 use crate::states::{Asked, Mounted, Outcome, State, Step};
+use blob::{Blob, Sum256};
 use cta_model::{Ask, Fault, Hand, Item, Job};
 use cta_site::Rows;
 use media::TapeDrive;
@@ -31,61 +30,54 @@ pub(crate) fn read_step<D: TapeDrive>(
     let Some(item) = item_at(items.as_slice(), at) else {
         return claim_step(number, x, drive);
     };
-    let fseq = item.fseq;
     let Ok(one) = vec![in alloc; item.job] else {
         return waiting(x, items, at, None);
     };
     let mut x = x;
-    match drive.read(&mut x.medium, fseq) {
+    match drive.read(&mut x.medium, item.fseq) {
         Ok(blob) => {
             let found = blob.sum();
-            let wanted = item.sum;
-            if !is_same(&found, &wanted) {
-                return failed(
-                    alloc,
-                    x,
-                    items,
-                    at + 1,
-                    one,
-                    Fault::Mismatch { found, wanted },
-                    Done::Mismatch { found, wanted },
-                    Outcome::Mismatch(fseq),
-                );
+            if !is_same(&found, &item.sum) {
+                return mismatched(alloc, x, items, at + 1, one, item, found);
             }
             let Ok(blob) = Arc::new(alloc, blob) else {
-                return waiting(x, items, at, Some(Done::Ok(Call::Read(fseq))));
+                return waiting(x, items, at, Some(Done::Ok(Call::Read(item.fseq))));
             };
-            let mount = x.mount;
-            Step {
-                state: State::Reading(x, items, at + 1),
-                asked: Asked::Recalled(fseq),
-                report: Report {
-                    device: Some(Done::Ok(Call::Read(fseq))),
-                    ask: Some((
-                        Ask::Recalled {
-                            mount,
-                            job: item.job,
-                        },
-                        Hand::Blob(blob),
-                    )),
-                },
-            }
+            recalled(x, items, at + 1, item, blob)
         }
         Err(error) => {
             if is_no_memory(error) {
-                return waiting(x, items, at, Some(Done::NoMemory(Call::Read(fseq))));
+                return waiting(x, items, at, Some(Done::NoMemory(Call::Read(item.fseq))));
             }
-            failed(
-                alloc,
-                x,
-                items,
-                at + 1,
-                one,
-                Fault::Read,
-                Done::Fault(Call::Read(fseq)),
-                Outcome::Read(fseq),
-            )
+            unread(alloc, x, items, at + 1, one, item.fseq)
         }
+    }
+}
+
+// A step that hands a content in, after which so many items are read.
+fn recalled<M: Drop>(
+    x: Mounted<M>,
+    items: Rows<Item>,
+    read: usize,
+    item: Item,
+    blob: Arc<Blob>,
+) -> Step<M>
+    ensures { result ≡ record { state = State.Reading x items read; asked = Asked.Recalled item.fseq; report = record { device = Some (Done.Ok (Call.Read item.fseq)); ask = Some (Ask.Recalled x.mount item.job, Hand.Blob blob) } } }
+{
+    let mount = x.mount;
+    Step {
+        state: State::Reading(x, items, read),
+        asked: Asked::Recalled(item.fseq),
+        report: Report {
+            device: Some(Done::Ok(Call::Read(item.fseq))),
+            ask: Some((
+                Ask::Recalled {
+                    mount,
+                    job: item.job,
+                },
+                Hand::Blob(blob),
+            )),
+        },
     }
 }
 
@@ -100,6 +92,54 @@ fn waiting<M: Drop>(x: Mounted<M>, items: Rows<Item>, at: usize, device: Option<
     }
 }
 
+// A step that charges an item whose content has another sum.
+fn mismatched<M: Drop>(
+    alloc: Global,
+    x: Mounted<M>,
+    items: Rows<Item>,
+    next: usize,
+    one: Vec<Job>,
+    item: Item,
+    found: Sum256,
+) -> Step<M>
+    ensures { IsChargedFor x items next one.items (Fault.Mismatch found item.sum) (Done.Mismatch found item.sum) (Outcome.Mismatch item.fseq) result }
+{
+    let wanted = item.sum;
+    failed(
+        alloc,
+        x,
+        items,
+        next,
+        one,
+        Fault::Mismatch { found, wanted },
+        Done::Mismatch { found, wanted },
+        Outcome::Mismatch(item.fseq),
+    )
+}
+
+// A step that charges an item that was not read.
+fn unread<M: Drop>(
+    alloc: Global,
+    x: Mounted<M>,
+    items: Rows<Item>,
+    next: usize,
+    one: Vec<Job>,
+    fseq: u32,
+) -> Step<M>
+    ensures { IsChargedFor x items next one.items Fault.Read (Done.Fault (Call.Read fseq)) (Outcome.Read fseq) result }
+{
+    failed(
+        alloc,
+        x,
+        items,
+        next,
+        one,
+        Fault::Read,
+        Done::Fault(Call::Read(fseq)),
+        Outcome::Read(fseq),
+    )
+}
+
 // A step that charges one job.
 fn failed<M: Drop>(
     alloc: Global,
@@ -111,7 +151,7 @@ fn failed<M: Drop>(
     device: Done,
     outcome: Outcome,
 ) -> Step<M>
-    ensures { (charged : Listed Job) × ((returned : Listed Job) × ((charged.items ≡ one.items) × (returned.items ≡ []) × (result ≡ record { state = State.Reading x items next; asked = Asked.Known outcome; report = record { device = Some device; ask = Some (Ask.Failed x.mount fault charged returned, Hand.Nothing) } }))) }
+    ensures { IsChargedFor x items next one.items fault device outcome result }
 {
     let mount = x.mount;
     Step {

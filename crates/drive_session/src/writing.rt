@@ -1,12 +1,12 @@
 // The steps of a batch that is written.
-ghost use Rattle.std.specs.Prelude.{◌≡◌, length, true};
+ghost use Rattle.std.specs.Prelude.{◌≡◌, None, Some, length, true};
 ghost use Rattle.drive_session.specs.Steps.{FitsSome, IsStep};
 
 use crate::claims::{is_no_memory, item_at, parted, rows_of};
 use crate::reports::{Call, Done, Report, StepLine};
 use crate::states::{Asked, Batch, Mounted, Outcome, State, Step};
 use blob::Blob;
-use cta_model::{Ask, Fault, Hand, Item};
+use cta_model::{Ask, Fault, Hand, Item, Job};
 use cta_site::Rows;
 use media::TapeDrive;
 use std::alloc::Global;
@@ -70,45 +70,62 @@ pub(crate) fn write_step<D: TapeDrive>(
     match answer {
         Ok(()) => {
             b.at += 1;
-            Step {
-                state: State::Writing(x, b),
-                asked: Asked::Nothing(StepLine::Write(fseq, true)),
-                report: Report {
-                    device: Some(Done::Ok(Call::Write(fseq))),
-                    ask: None,
-                },
-            }
+            let line = StepLine::Write(fseq, true);
+            still_writing(x, b, line, Done::Ok(Call::Write(fseq)))
         }
         Err(error) => {
             if is_no_memory(error) {
-                return Step {
-                    state: State::Writing(x, b),
-                    asked: Asked::Nothing(StepLine::Memory),
-                    report: Report {
-                        device: Some(Done::NoMemory(Call::Write(fseq))),
-                        ask: None,
-                    },
-                };
+                let done = Done::NoMemory(Call::Write(fseq));
+                return still_writing(x, b, StepLine::Memory, done);
             }
-            let mount = x.mount;
             let (charged, returned) = parted(b.jobs, b.one, b.at);
-            Step {
-                state: State::Leaving(x),
-                asked: Asked::Known(Outcome::Write(fseq)),
-                report: Report {
-                    device: Some(Done::Fault(Call::Write(fseq))),
-                    ask: Some((
-                        Ask::Failed {
-                            mount,
-                            fault: Fault::Write,
-                            charged,
-                            returned,
-                        },
-                        Hand::Nothing,
-                    )),
-                },
-            }
+            let (call, outcome) = (Call::Write(fseq), Outcome::Write(fseq));
+            leaving(x, Fault::Write, charged, returned, call, outcome)
         }
+    }
+}
+
+// A step with no ask in a batch that is written.
+fn still_writing<M: Drop>(x: Mounted<M>, b: Batch, line: StepLine, done: Done) -> Step<M>
+    ensures { result ≡ record { state = State.Writing x b; asked = Asked.Nothing line; report = record { device = Some done; ask = None } } }
+{
+    Step {
+        state: State::Writing(x, b),
+        asked: Asked::Nothing(line),
+        report: Report {
+            device: Some(done),
+            ask: None,
+        },
+    }
+}
+
+// A fault, after which the mount is left.
+fn leaving<M: Drop>(
+    x: Mounted<M>,
+    fault: Fault,
+    charged: Rows<Job>,
+    returned: Rows<Job>,
+    call: Call,
+    outcome: Outcome,
+) -> Step<M>
+    ensures { result ≡ record { state = State.Leaving x; asked = Asked.Known outcome; report = record { device = Some (Done.Fault call); ask = Some (Ask.Failed x.mount fault charged returned, Hand.Nothing) } } }
+{
+    let mount = x.mount;
+    Step {
+        state: State::Leaving(x),
+        asked: Asked::Known(outcome),
+        report: Report {
+            device: Some(Done::Fault(call)),
+            ask: Some((
+                Ask::Failed {
+                    mount,
+                    fault,
+                    charged,
+                    returned,
+                },
+                Hand::Nothing,
+            )),
+        },
     }
 }
 
@@ -144,22 +161,16 @@ pub(crate) fn flush_step<D: TapeDrive>(
         Err(_) => {
             let mut none = b.one;
             none.clear();
-            Step {
-                state: State::Leaving(x),
-                asked: Asked::Known(Outcome::Flush),
-                report: Report {
-                    device: Some(Done::Fault(Call::Flush)),
-                    ask: Some((
-                        Ask::Failed {
-                            mount,
-                            fault: Fault::Flush,
-                            charged: Rows::of(b.jobs),
-                            returned: Rows::of(none),
-                        },
-                        Hand::Nothing,
-                    )),
-                },
-            }
+            let charged = Rows::of(b.jobs);
+            let returned = Rows::of(none);
+            leaving(
+                x,
+                Fault::Flush,
+                charged,
+                returned,
+                Call::Flush,
+                Outcome::Flush,
+            )
         }
     }
 }

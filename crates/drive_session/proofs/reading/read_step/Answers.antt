@@ -33,7 +33,7 @@ returns-then-not-is_same g c =
     (refl, (c.in-Ok-read.blob, (sym c.sum-found.ensures, given)))
     (no_mismatch g.D.Medium.Told.told c.args.number c.args.x c.args.items c.args.at c.in-Some.item _ c.in-Ok-read.blob c.sum-found.result c.in-Some.item.sum there c.requires.fits given (sym c.sum-found.ensures) refl other)
     (λ h is. is) (λ charged returned. refl) (read_charged c.args.items.items c.args.at c.in-Some.item there)
-    (read_follows c.args.items.items c.args.at c.in-Some.item end.Mismatch there) (c.sum-found.result, (c.in-Some.item.sum, refl)) c.failed.ensures
+    (read_follows c.args.items.items c.args.at c.in-Some.item end.Mismatch there) (c.sum-found.result, (c.in-Some.item.sum, refl)) c.mismatched.ensures
 
 pub returns-in_default-new : goal.returns-in_default-new
 returns-in_default-new g c =
@@ -46,7 +46,8 @@ pub returns-in-Ok-new : goal.returns-in-Ok-new
 returns-in-Ok-new g c =
     let there : slice_get c.args.items.items c.args.at ≡ Some c.in-Some.item = ap (λ xs. slice_get xs c.args.at) (sym c.as_slice.ensures) ∙ sym c.item_at.ensures.item ∙ c.in-Some.is in
     let sum = sym c.sum-found.ensures ∙ are_same _ _ _ c.is_same.ensures c.if-not-is_same.false in
-    record {
+    rw c.recalled.ensures
+    (record {
       device = c.in-Ok-read.ensures.drive;
       read = (given_same g.D.Medium.Told.told c.args.x _ (slice_get c.args.items.items c.args.at) c.in-Some.item _ there (refl, (c.in-Ok-read.blob, (sum, c.in-Ok-read.ensures.bytes))), λ h t. tt);
       loaded = loaded_read _ _ _ c.read.ensures.drive c.requires.loaded;
@@ -57,7 +58,7 @@ returns-in-Ok-new g c =
       kept = tt;
       lawful = recalled_leads c.args.items c.args.at c.in-Some.item (after c.args.x c.read.new.medium) there;
       fits = recall_fits g.D.Medium.Told.told c.args.number c.args.x c.read.new.medium c.args.items c.args.at c.in-Some.item _ c.in-Ok-new.blob there c.read.ensures.records (ap sum_of c.in-Ok-new.ensures.ok ∙ sum);
-    }
+    })
 
 pub returns-then-is_no_memory : goal.returns-then-is_no_memory
 returns-then-is_no_memory g c =
@@ -73,4 +74,4 @@ returns-else-is_no_memory g c =
     failed_step g.D.Medium.Told.told c.args.number c.args.x c.read.new.medium c.args.items c.args.at c.in-Some.item _ _ _ _ _ _ _ there c.read.ensures.records c.in-Ok.ensures.items (answered_by _ _ _ _ _ fault c.read.ensures.drive)
     (loaded_read _ _ _ c.read.ensures.drive c.requires.loaded) tt (λ h t. tt)
     (λ h is. is) (λ charged returned. (c.in-Some.item.fseq, refl)) (read_charged c.args.items.items c.args.at c.in-Some.item there)
-    (read_follows c.args.items.items c.args.at c.in-Some.item end.Failed there) refl c.failed-in-Err.ensures
+    (read_follows c.args.items.items c.args.at c.in-Some.item end.Failed there) refl c.unread.ensures

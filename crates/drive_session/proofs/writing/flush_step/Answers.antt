@@ -20,15 +20,16 @@ returns-in-Ok g c = record {
 pub returns-in-Err : goal.returns-in-Err
 returns-in-Err g c =
     let fault = only_fault c.flush.result c.in-Err.field-0 c.in-Err.is c.flush.ensures.memory in
-    record {
+    rw c.leaving.ensures
+    (record {
       device = answered_by _ _ _ _ _ fault c.flush.ensures.drive;
       read = tt;
       loaded = loaded_flush _ _ _ c.flush.ensures.drive c.requires.loaded;
       waits = refl;
       asked = refl;
-      charged = flush_charges g.D.Medium.Told.told c.args.number c.args.x c.args.b c.of.result c.of-in-Err.result c.of.ensures.items (c.of-in-Err.ensures.items ∙ c.clear.ensures.items) c.requires.fits;
+      charged = flush_charges g.D.Medium.Told.told c.args.number c.args.x c.args.b c.of-charged.result c.of-returned.result c.of-charged.ensures.items (c.of-returned.ensures.items ∙ c.clear.ensures.items) c.requires.fits;
       safe = tt;
       kept = tt;
       lawful = λ a k. (flush_fails c.args.b.items.items c.args.b.at c.requires.all, refl);
-      fits = flush_fault_fits g.D.Medium.Told.told c.args.number c.args.x c.args.b c.flush.new.medium _ c.of.result c.of-in-Err.result c.of.ensures.items (c.of-in-Err.ensures.items ∙ c.clear.ensures.items) (flush_records _ _ _ fault c.flush.ensures.records);
-    }
+      fits = flush_fault_fits g.D.Medium.Told.told c.args.number c.args.x c.args.b c.flush.new.medium _ c.of-charged.result c.of-returned.result c.of-charged.ensures.items (c.of-returned.ensures.items ∙ c.clear.ensures.items) (flush_records _ _ _ fault c.flush.ensures.records);
+    })

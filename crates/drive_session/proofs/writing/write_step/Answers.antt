@@ -18,7 +18,8 @@ write-answer-requires-clause-place g c =
 pub returns-in-Ok : goal.returns-in-Ok
 returns-in-Ok g c =
     let there : slice_get c.args.b.items.items c.args.b.at ≡ Some c.in-Some.item = ap (λ xs. slice_get xs c.args.b.at) (sym c.as_slice.ensures) ∙ sym c.item_at.ensures.item ∙ c.in-Some.is in
-    record {
+    rw c.still_writing.ensures
+    (record {
       device = c.in-Ok.ensures.drive;
       read = tt;
       loaded = c.in-Ok.ensures.drive.loaded ∙ c.requires.loaded;
@@ -29,7 +30,7 @@ returns-in-Ok g c =
       kept = tt;
       lawful = λ a k. (write_follows c.args.b.items.items c.args.b.at c.in-Some.item there, refl);
       fits = write_fits g.D.Medium.Told.told c.args.number c.args.x c.args.b c.write-answer.new.medium c.in-Some.item c.index-as_slice-b.result there (rw c.as_slice-2.ensures at c.index-as_slice-b.is) c.in-Ok.ensures.records;
-    }
+    })
 
 pub returns-then-is_no_memory : goal.returns-then-is_no_memory
 returns-then-is_no_memory g c =
@@ -37,7 +38,8 @@ returns-then-is_no_memory g c =
     let answered = answered_by _ _ _ _ _ wanted c.write-answer.ensures.drive in
     let there : slice_get c.args.b.items.items c.args.b.at ≡ Some c.in-Some.item = ap (λ xs. slice_get xs c.args.b.at) (sym c.as_slice.ensures) ∙ sym c.item_at.ensures.item ∙ c.in-Some.is in
     let same = write_records _ _ _ _ _ _ wanted c.write-answer.ensures.records in
-    record {
+    rw c.still_writing-then-is_no_memory.ensures
+    (record {
       device = (tt, answered.memory refl);
       read = tt;
       loaded = answered.loaded ∙ c.requires.loaded;
@@ -48,13 +50,14 @@ returns-then-is_no_memory g c =
       kept = (record { mount = refl; direction = refl; tape = refl; medium = same }, refl, slice_get_within c.args.b.items.items c.args.b.at c.in-Some.item there);
       lawful = λ a k. (Again _, tt);
       fits = write_waits g.D.Medium.Told.told c.args.number c.args.x c.args.b c.write-answer.new.medium same;
-    }
+    })
 
 pub returns-else-is_no_memory : goal.returns-else-is_no_memory
 returns-else-is_no_memory g c =
     let there : slice_get c.args.b.items.items c.args.b.at ≡ Some c.in-Some.item = ap (λ xs. slice_get xs c.args.b.at) (sym c.as_slice.ensures) ∙ sym c.item_at.ensures.item ∙ c.in-Some.is in
     let fault : error_of c.write-answer.result ≡ Some err.Fault = ap error_of c.in-Err.is ∙ ap Some (fault_left c.in-Err.error c.is_no_memory.result c.is_no_memory.ensures c.if-is_no_memory.false) in
-    record {
+    rw c.leaving.ensures
+    (record {
       device = answered_by _ _ _ _ _ fault c.write-answer.ensures.drive;
       read = tt;
       loaded = loaded_write _ _ _ c.write-answer.ensures.drive c.requires.loaded;
@@ -68,4 +71,4 @@ returns-else-is_no_memory g c =
           there c.parted-charged.ensures.charged
           (parted_of _ c.args.b.jobs.items _ _ c.args.b.at c.parted-charged.ensures.charged c.parted-charged.ensures.returned)
           (write_records _ _ _ _ _ _ fault c.write-answer.ensures.records);
-    }
+    })
