@@ -1,2 +1,3 @@
 pub mod Lines
+mod Fits
 pub mod Told

@@ -3,7 +3,7 @@ ghost use Rattle.std.specs.Prelude.{◌≡◌};
 
 use crate::order::comes_before;
 use cta_model::Job;
-use sum_trees::Summed;
+use sum_trees::{Sought, Summed};
 
 // A line that waits. The fields stand in the order that takes least memory.
 #[derive(Clone, Copy)]
@@ -63,5 +63,20 @@ impl Summed for Queued {
             priority: first.priority.max(second.priority),
             age: first.age.min(second.age),
         }
+    }
+}
+
+impl Sought for Queued {
+    ghost use Rattle.job_queues.specs.Fitting.{fits_either, some_fits};
+
+    // So many bytes, which a file is to have at most.
+    type Wanted = u64;
+
+    ghost passes = { some_fits };
+
+    ghost either = { fits_either };
+
+    fn has_sought(sum: Totals, room: u64) -> bool {
+        sum.least <= room
     }
 }

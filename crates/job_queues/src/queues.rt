@@ -16,7 +16,7 @@ use sum_trees::Forest;
 /// how many more there is room, under whichever keys. This project's own.
 #[derive(Drop)]
 pub struct JobQueues {
-    forest: Forest<Queued>,
+    pub(crate) forest: Forest<Queued>,
 }
 
 impl Model for JobQueues {
@@ -33,7 +33,7 @@ impl Model for JobQueues {
 }
 
 // A line of this job, of which nothing else is asked.
-fn line_like(job: Job) -> Queued
+pub(crate) fn line_like(job: Job) -> Queued
     ensures { result.job ≡ job }
 {
     Queued {

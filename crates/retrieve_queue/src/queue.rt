@@ -98,6 +98,13 @@ impl RetrieveQueue {
         self.queues.take(key, job)
     }
 
+    /// The queues by the numbers of tapes, as they are shared by both directions. In constant time.
+    pub fn queues(&self) -> &JobQueues
+        ensures { result.now ≡ self.now }
+    {
+        &self.queues
+    }
+
     /// The sums of a tape's lines, None exactly where it has none. Its cost is the logarithm of their number.
     pub fn sums(&self, key: u32) -> Option<Sums>
         requires key { key < length self.now.value }

@@ -6,10 +6,10 @@ use Rattle.std.proofs.Math.ListN.{set}
 use Rattle.std.proofs.lemmas.Bool.{eqb-true}
 use Rattle.sum_trees.specs.Sums.{Sums, sum_of}
 use Rattle.sum_trees.specs.Nodes.{Entry, sum_at, has_place, AreApart, items_of}
-use Rattle.sum_trees.specs.Order.{IsSorted, inserted, placed, unlike, has_like, is_like, first_of}
+use Rattle.sum_trees.specs.Order.{IsSorted, inserted, placed, replaced, unlike, has_like, is_like, first_of}
 use Rattle.sum_trees.specs.Trees.{IsTree, HasTree, IsRoot, HasParts, CanFork, Becomes, Forks}
 use Rattle.sum_trees.specs.Changes.{HasSpace, CanEnter, Entered, IsCut, CutFirst, CutLike}
-use Rattle.sum_trees.specs.Searches.{entries_at, TellsFirst, TellsPassing}
+use Rattle.sum_trees.specs.Searches.{entries_at, TellsFirst, TellsPassing, TellsSum}
 use Rattle.sum_trees.specs.Forests.{items_in, AreEmpty}
 use Rattle.sum_trees.specs.Groves.{count_of, entries_in, StandApart, IsLoose, items_at, IsGrove, FoundPlace, FindsPlace, GroveBecomes}
 use Rattle.sum_trees.specs.declared.nodes.Node.{Node}
@@ -18,7 +18,7 @@ use Rattle.sum_trees.specs.declared.grove.Spares.{Spares}
 use Rattle.sum_trees.specs.declared.grove.Found.{Found}
 use Rattle.sum_trees.proofs.Standing.{no_tree, items_append, sum_is}
 use Rattle.sum_trees.proofs.Searched.{entries_are}
-use Rattle.sum_trees.proofs.Orders.{IsOrder, placed_has, placed_length, placed_apart, placed_items, inserted_sorted, unlike_sorted, unlike_cut, unlike_none, unlike_gone, has_like_at}
+use Rattle.sum_trees.proofs.Orders.{IsOrder, placed_has, placed_length, placed_apart, placed_items, inserted_sorted, unlike_sorted, unlike_cut, unlike_none, unlike_gone, has_like_at, put_again}
 use Rattle.sum_trees.proofs.Stands.{set_here, set_there, set_length, count_least, cut_stands, enter_stands, push_stands, read_back}
 
 -- a slice that was written as a whole
@@ -356,6 +356,12 @@ told_passing m b ns ms rs spares k r trees d p told f =
     f (entries_at ns (slice_index_or rs k 0)) (read_tree m b ns ms rs spares k r trees d).stands (d.grove.sorted k (within_rows (items_at ns) rs k trees d.rows d.within))
     ∙ ap (λ l. first_of (filter p l)) (row_is ns rs k trees d.rows d.within)
 
+pub told_range : {T S : Type 0} (m : Sums T S) (b : T → T → Bool) (ns ms : List (Node T S)) (rs : List ℕ) (spares : Spares) (k r : ℕ) (trees : List (List T)) → Reads m b ns ms rs spares k r trees → (p : T → Bool) (told : Option S) → TellsSum m b p ms r told
+    → told ≡ sum_of m (filter p (items_in trees k))
+told_range m b ns ms rs spares k r trees d p told f =
+    f (entries_at ns (slice_index_or rs k 0)) (read_tree m b ns ms rs spares k r trees d).stands (d.grove.sorted k (within_rows (items_at ns) rs k trees d.rows d.within))
+    ∙ ap (λ l. sum_of m (filter p l)) (row_is ns rs k trees d.rows d.within)
+
 pub told_few : {T S : Type 0} (m : Sums T S) (b : T → T → Bool) (ns ms : List (Node T S)) (rs : List ℕ) (spares : Spares) (k r : ℕ) (trees : List (List T)) → Reads m b ns ms rs spares k r trees → length (items_in trees k) < 2 ^ 32
 told_few m b ns ms rs spares k r trees d =
     let few : length (entries_at ns (slice_index_or rs k 0)) < 2 ^ 32 = (read_tree m b ns ms rs spares k r trees d).few in
@@ -424,3 +430,18 @@ item_gone b x trees now k h e =
     ap (λ l. has_like b x (items_in l k)) e
     ∙ ap (has_like b x) (set_here trees k (unlike b x (items_in trees k)) [] h)
     ∙ unlike_gone b x (items_in trees k)
+
+-- the tree in which an item was put again
+pub put_again_tree : {T : Type 0} {b : T → T → Bool} → IsOrder b → (x : T) (trees mid now : List (List T)) (k : ℕ) → k < length trees → has_like b x (items_in trees k) ≡ true → IsSorted b (items_in trees k)
+    → mid ≡ set trees k (unlike b x (items_in trees k)) → now ≡ set mid k (inserted b x (items_in mid k)) → now ≡ set trees k (replaced b x (items_in trees k))
+put_again_tree {b = b} o x trees mid now k lt there sorted was is =
+    let rest = unlike b x (items_in trees k) in
+    is ∙ ap (λ l. set l k (inserted b x (items_in l k))) was
+    ∙ ap (λ l. set (set trees k rest) k (inserted b x l)) (set_here trees k rest [] lt)
+    ∙ set_twice trees k rest (inserted b x rest)
+    ∙ ap (set trees k) (put_again o x (items_in trees k) there sorted)
+  where
+    set_twice : {A : Type 0} (xs : List A) (k : ℕ) (x y : A) → set (set xs k x) k y ≡ set xs k y
+    set_twice [] k x y = refl
+    set_twice (z ∷ xs) zero x y = refl
+    set_twice (z ∷ xs) (suc k) x y = ap (λ l. z ∷ l) (set_twice xs k x y)

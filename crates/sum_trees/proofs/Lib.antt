@@ -6,5 +6,6 @@ pub mod Orders
 pub mod Enters
 pub mod Cuts
 pub mod Searched
+pub mod Parted
 pub mod Stands
 pub mod Grown

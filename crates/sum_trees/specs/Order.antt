@@ -1,5 +1,5 @@
 -- Items in order.
-use Rattle.std.specs.Prelude.{◌≡◌, List, [], ◌∷◌, Option, Some, None, Bool, true, false, not, ◌||◌, if◌then◌else◌, filter}
+use Rattle.std.specs.Prelude.{◌≡◌, List, [], ◌∷◌, Option, Some, None, Bool, true, false, not, ◌&&◌, ◌||◌, if◌then◌else◌, filter, map}
 use Rattle.sum_trees.specs.Nodes.{Entry}
 
 -- an item comes before each of these
@@ -30,6 +30,10 @@ is_like b x y = not (b x y || b y x)
 abbrev pub unlike : {T : Type 0} → (T → T → Bool) → T → List T → List T
 unlike b x ys = filter (λ y. not (is_like b x y)) ys
 
+-- these, with this item in the place of those that are like it
+abbrev pub replaced : {T : Type 0} → (T → T → Bool) → T → List T → List T
+replaced b x ys = map (λ y. if is_like b x y then x else y) ys
+
 -- whether one of these is like this item
 abbrev pub has_like : {T : Type 0} → (T → T → Bool) → T → List T → Bool
 has_like b x [] = false
@@ -47,3 +51,11 @@ first_after b x ys = first_of (filter (b x) ys)
 -- the first item that does not come before this one
 abbrev pub first_from : {T : Type 0} → (T → T → Bool) → T → List T → Option T
 first_from b x ys = first_of (filter (λ y. not (b y x)) ys)
+
+-- the item that is like this one
+abbrev pub first_like : {T : Type 0} → (T → T → Bool) → T → List T → Option T
+first_like b x ys = first_of (filter (is_like b x) ys)
+
+-- the items that do not come before the first of these two and come before the second
+abbrev pub between : {T : Type 0} → (T → T → Bool) → T → T → List T → List T
+between b low high ys = filter (λ y. not (b y low) && b y high) ys

@@ -1,6 +1,6 @@
 -- What is told of a tree in nodes.
 use Rattle.std.specs.Prelude.{ℕ, zero, suc, ◌≡◌, List, [], ◌∷◌, ◌++◌, Option, Some, None, Bool, not, filter}
-use Rattle.sum_trees.specs.Sums.{Sums}
+use Rattle.sum_trees.specs.Sums.{Sums, sum_of}
 use Rattle.sum_trees.specs.Nodes.{Entry, node_at, height_at, items_of}
 use Rattle.sum_trees.specs.Order.{IsSorted, first_of}
 use Rattle.sum_trees.specs.Trees.{IsTree}
@@ -21,6 +21,10 @@ TellsAfter m b ns root x told = TellsPassing m b (b x) ns root told
 -- the first item of the tree in order that does not come before this one
 abbrev pub TellsFrom : {T S : Type 0} → Sums T S → (T → T → Bool) → List (Node T S) → ℕ → T → Option T → Type 0
 TellsFrom m b ns root x told = TellsPassing m b (λ y. not (b y x)) ns root told
+
+-- the sum of the items of the tree in order that pass a test, none where there are none
+abbrev pub TellsSum : {T S : Type 0} → Sums T S → (T → T → Bool) → (T → Bool) → List (Node T S) → ℕ → Option S → Type 0
+TellsSum {T = T} m b p ns root told = (es : List (Entry T)) → IsTree m ns root es → IsSorted b (items_of es) → told ≡ sum_of m (filter p (items_of es))
 
 -- the entries of a node between those of its two trees
 abbrev pub spread : {T S : Type 0} → (ℕ → List (Entry T)) → ℕ → Option (Node T S) → List (Entry T)

@@ -1,12 +1,15 @@
 // Ordered trees with sums over one vector of nodes.
-ghost use Rattle.std.specs.Prelude.{◌≡◌, ◌+◌, ◌<◌, ◌≤◌, ◌^◌, IfOk, OnOk, false, length, slice_set};
-ghost use Rattle.sum_trees.specs.Sums.{sum_of};
-ghost use Rattle.sum_trees.specs.Order.{IsSorted, first_after, first_from, first_of, has_like, inserted, unlike};
+ghost use Rattle.std.specs.Prelude.{◌≡◌, ◌+◌, ◌<◌, ◌≤◌, ◌^◌, IfOk, OnOk, false, is_some, length, slice_set, true, vec_capacity, vec_len};
+ghost use Rattle.sum_trees.specs.Sums.{first_passing, next_passing, sum_of};
+ghost use Rattle.sum_trees.specs.Order.{IsSorted, between, first_after, first_from, first_like, first_of, has_like, inserted, replaced, unlike};
 ghost use Rattle.sum_trees.specs.Forests.{AreEmpty, AreNowhere, items_in};
 
 use crate::grove::{Spares, put_in, take_out};
 use crate::nodes::{NOWHERE, Node, sum_of_tree};
-use crate::search::{first_item, item_after, item_from};
+use crate::passing::{passing_after, passing_item};
+use crate::ranges::sum_of_range;
+use crate::search::{first_item, item_after, item_from, item_like};
+use crate::sought::Sought;
 use crate::summed::Summed;
 use cta_site::NoMemory;
 use std::alloc::Global;
@@ -45,6 +48,21 @@ fn empty_roots(alloc: Global, trees: u32) -> Result<Vec<u32>, NoMemory>
     Ok(roots)
 }
 
+// Makes room for so many more nodes, and where the vector grows, for a thirty-second of those that there are.
+fn grow<N>(nodes: &mut Vec<N>, wanted: usize) -> Result<(), NoMemory>
+    ensures items { nodes.new.items ≡ nodes.old.items }
+    ensures len { vec_len nodes.new ≡ vec_len nodes.old }
+    ensures capacity { vec_capacity nodes.old ≤ vec_capacity nodes.new }
+    ensures room { OnOk result (vec_len nodes.new + wanted ≤ vec_capacity nodes.new) }
+{
+    let count = nodes.len();
+    if wanted <= nodes.capacity() - count {
+        return Ok(());
+    }
+    nodes.reserve_exact(wanted.max(count / 32))?;
+    Ok(())
+}
+
 impl<T: Summed> Forest<T> {
     /// So many empty trees, with no room yet. NoMemory gives nothing. Its cost is the number of trees.
     pub fn new(alloc: Global, trees: u32) -> Result<Forest<T>, NoMemory>
@@ -62,8 +80,9 @@ impl<T: Summed> Forest<T> {
     }
 
     /// Makes room for at least this many more items, and never makes the room smaller. NoMemory changes no item; it is the
-    /// answer too where there would be more than 2^32 - 1 nodes. Its cost is the number of items where the vector grows, and
-    /// else constant.
+    /// answer too where there would be more than 2^32 - 1 nodes. Where the vector grows, it grows by at least a thirty-second
+    /// of its nodes and no further than that or what was asked for. Its cost is the number of items where the vector grows, and
+    /// else constant, so that room for items one by one costs a constant for each on average.
     pub fn reserve(&mut self, more: u32) -> Result<(), NoMemory>
         ensures trees { self.new.trees ≡ self.old.trees }
         ensures room { OnOk result (more ≤ self.new.room) }
@@ -73,8 +92,15 @@ impl<T: Summed> Forest<T> {
         if NOWHERE as usize - self.nodes.len() < wanted {
             return Err(NoMemory);
         }
-        self.nodes.reserve(wanted)?;
-        Ok(())
+        grow(&mut self.nodes, wanted)
+    }
+
+    /// For how many more items there is room, in whichever trees. In constant time.
+    pub fn room(&self) -> usize
+        ensures { result ≡ self.now.room }
+    {
+        let most = self.nodes.capacity().min(NOWHERE as usize);
+        most - self.nodes.len() + self.spares.count as usize
     }
 
     /// Puts an item into a tree at its place in the order, where none is like it. It takes no memory. Its cost is the
@@ -95,13 +121,16 @@ impl<T: Summed> Forest<T> {
         );
     }
 
-    /// Takes the item that is like this one out of a tree, and says whether there was one. It takes no memory. Its cost is
-    /// the logarithm of the number of items of the tree.
+    /// Takes the item that is like this one out of a tree, and says whether there was one. Its place is free again, so an item
+    /// can be changed in place by `take` and `insert`. It takes no memory. Its cost is the logarithm of the number of items of
+    /// the tree.
     pub fn take(&mut self, tree: u32, like: T) -> bool
         requires tree { tree < length self.old.trees }
+        ensures sorted { IsSorted T.before (items_in self.old.trees tree) }
         ensures had { result ≡ has_like T.before like (items_in self.old.trees tree) }
         ensures trees { self.new.trees ≡ slice_set self.old.trees tree (unlike T.before like (items_in self.old.trees tree)) }
         ensures room { self.old.room ≤ self.new.room }
+        ensures back { result ≡ true → self.old.room + 1 ≤ self.new.room }
     {
         let removed = take_out(
             self.nodes.as_mut_slice(),
@@ -112,6 +141,18 @@ impl<T: Summed> Forest<T> {
         );
         self.spares = removed.spares;
         removed.found
+    }
+
+    /// Puts an item in the place of the one that is like it, where there is one. It takes no memory. Its cost is the logarithm
+    /// of the number of items of the tree.
+    pub fn replace(&mut self, tree: u32, item: T)
+        requires tree { tree < length self.old.trees }
+        requires there { has_like T.before item (items_in self.old.trees tree) ≡ true }
+        ensures trees { self.new.trees ≡ slice_set self.old.trees tree (replaced T.before item (items_in self.old.trees tree)) }
+        ensures room { self.old.room ≤ self.new.room }
+    {
+        let _was = self.take(tree, item);
+        self.insert(tree, item);
     }
 
     /// The sum of the items of a tree, None exactly where it is empty. A tree has fewer than 2^32 items, in order. Its cost is
@@ -150,5 +191,52 @@ impl<T: Summed> Forest<T> {
         ensures from { result ≡ first_from T.before item (items_in self.now.trees tree) }
     {
         item_from(self.nodes.as_slice(), self.roots[tree as usize], item)
+    }
+
+    /// The item of a tree that is like this one, None exactly where there is none. Its cost is the logarithm of the number of
+    /// items.
+    pub fn get(&self, tree: u32, like: T) -> Option<T>
+        requires tree { tree < length self.now.trees }
+        ensures sorted { IsSorted T.before (items_in self.now.trees tree) }
+        ensures had { is_some result ≡ has_like T.before like (items_in self.now.trees tree) }
+        ensures like { result ≡ first_like T.before like (items_in self.now.trees tree) }
+    {
+        item_like(self.nodes.as_slice(), self.roots[tree as usize], like)
+    }
+
+    /// The sum of the items of a tree that do not come before `low` and come before `high`, None exactly where there are none.
+    /// Neither need be in the tree. Its cost is the logarithm of the number of items.
+    pub fn sum_between(&self, tree: u32, low: T, high: T) -> Option<T::Sum>
+        requires tree { tree < length self.now.trees }
+        ensures { result ≡ sum_of T.sums (between T.before low high (items_in self.now.trees tree)) }
+    {
+        sum_of_range(self.nodes.as_slice(), self.roots[tree as usize], low, high)
+    }
+}
+
+impl<T: Sought> Forest<T> {
+    /// The first item of a tree whose own sum passes, None exactly where there is none. Its cost is the logarithm of the number
+    /// of items.
+    pub fn first_passing(&self, tree: u32, wanted: T::Wanted) -> Option<T>
+        requires tree { tree < length self.now.trees }
+        ensures sorted { IsSorted T.before (items_in self.now.trees tree) }
+        ensures first { result ≡ first_passing T.sums (T.passes wanted) (items_in self.now.trees tree) }
+    {
+        passing_item(self.nodes.as_slice(), self.roots[tree as usize], wanted)
+    }
+
+    /// The first item of a tree that this one comes before and whose own sum passes, None exactly where there is none. The item
+    /// itself need not be in the tree. Its cost is the logarithm of the number of items.
+    pub fn next_passing(&self, tree: u32, item: T, wanted: T::Wanted) -> Option<T>
+        requires tree { tree < length self.now.trees }
+        ensures sorted { IsSorted T.before (items_in self.now.trees tree) }
+        ensures next { result ≡ next_passing T.sums T.before (T.passes wanted) item (items_in self.now.trees tree) }
+    {
+        passing_after(
+            self.nodes.as_slice(),
+            self.roots[tree as usize],
+            item,
+            wanted,
+        )
     }
 }

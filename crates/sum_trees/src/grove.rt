@@ -1,5 +1,5 @@
 // Several trees in the same nodes.
-ghost use Rattle.std.specs.Prelude.{◌≡◌, ◌+◌, ◌-◌, ◌<◌, ◌≤◌, false, length, min, slice_index, vec_capacity, vec_len};
+ghost use Rattle.std.specs.Prelude.{◌≡◌, ◌+◌, ◌-◌, ◌<◌, ◌≤◌, false, length, min, slice_index, true, vec_capacity, vec_len};
 ghost use Rattle.sum_trees.specs.Changes.{CanEnter, CutFirst, Entered};
 ghost use Rattle.sum_trees.specs.Groves.{FindsPlace, GroveBecomes, IsGrove, items_at};
 ghost use Rattle.sum_trees.specs.Order.{has_like, inserted, unlike};
@@ -126,6 +126,7 @@ pub(crate) fn take_out<T: Summed>(
     ensures grove { GroveBecomes T.sums T.before nodes.old nodes.new roots.old roots.new result.spares tree (unlike T.before like (items_at nodes.old (slice_index roots.old tree))) }
     ensures had { result.found ≡ has_like T.before like (items_at nodes.old (slice_index roots.old tree)) }
     ensures room { spares.count ≤ result.spares.count }
+    ensures back { result.found ≡ true → spares.count + 1 ≤ result.spares.count }
 {
     match cut_like(nodes, roots[tree as usize], like) {
         None => Removed {

@@ -6,10 +6,14 @@ mod change;
 mod forest;
 mod grove;
 mod nodes;
+mod passing;
+mod ranges;
 mod search;
+mod sought;
 mod summed;
 #[cfg(test)]
 mod tests;
 
 pub use forest::Forest;
+pub use sought::Sought;
 pub use summed::Summed;

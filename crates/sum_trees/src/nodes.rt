@@ -51,7 +51,7 @@ pub(crate) fn sum_of_tree<T: Copy, S: Copy>(nodes: &[Node<T, S>], at: u32) -> Op
 }
 
 // The sum of an item between the sums of two trees.
-fn sum_around<T: Summed>(left: Option<T::Sum>, item: &T, right: Option<T::Sum>) -> T::Sum
+pub(crate) fn sum_around<T: Summed>(left: Option<T::Sum>, item: &T, right: Option<T::Sum>) -> T::Sum
     ensures { result ≡ around T.sums left item.now right }
 {
     let sum = match left {

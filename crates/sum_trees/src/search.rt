@@ -1,5 +1,6 @@
 // Items that a tree is asked for.
-ghost use Rattle.sum_trees.specs.Searches.{TellsAfter, TellsFirst, TellsFrom};
+ghost use Rattle.sum_trees.specs.Order.{is_like};
+ghost use Rattle.sum_trees.specs.Searches.{TellsAfter, TellsFirst, TellsFrom, TellsPassing};
 ghost use Rattle.sum_trees.specs.Trees.{IsRoot};
 
 use crate::nodes::{Node, node_of};
@@ -53,6 +54,25 @@ pub(crate) fn item_from<T: Summed>(nodes: &[Node<T, T::Sum>], root: u32, item: T
                 None => Some(node.item),
                 Some(first) => Some(first),
             }
+        }
+    }
+}
+
+// The item that is like this one.
+pub(crate) fn item_like<T: Summed>(nodes: &[Node<T, T::Sum>], root: u32, like: T) -> Option<T>
+    requires { IsRoot T.sums nodes.now root }
+    ensures { TellsPassing T.sums T.before (is_like T.before like) nodes.now root result }
+{
+    match node_of(nodes, root) {
+        None => None,
+        Some(node) => {
+            if like.is_before(&node.item) {
+                return item_like(nodes, node.left, like);
+            }
+            if node.item.is_before(&like) {
+                return item_like(nodes, node.right, like);
+            }
+            Some(node.item)
         }
     }
 }

@@ -1,7 +1,7 @@
 // Trees of numbers, each with its largest.
 ghost use Rattle.std.specs.Prelude.{◌≡◌, ◌<◌, length};
 
-use crate::{Forest, Summed};
+use crate::{Forest, Sought, Summed};
 use cta_site::NoMemory;
 use std::test::Fail;
 
@@ -35,6 +35,22 @@ impl Summed for Number {
 
     fn join(first: u32, second: u32) -> u32 {
         first.max(second)
+    }
+}
+
+// Numbers are sought that reach this one.
+impl Sought for Number {
+    ghost use Rattle.std.specs.Prelude.{nat_le};
+    ghost use Rattle.std.proofs.Common.{arith};
+
+    type Wanted = u32;
+
+    ghost passes = { nat_le };
+
+    ghost either = { λ w a b. Prim.grind arith };
+
+    fn has_sought(sum: u32, wanted: u32) -> bool {
+        wanted <= sum
     }
 }
 
@@ -95,10 +111,40 @@ fn numbers_leave(rt: HostRuntime) -> Result<(), Fail> {
     ten(&mut forest).ok().ok_or("no memory")?;
     assert!(rt; forest.take(1, Number(4)));
     assert!(rt; !forest.take(1, Number(4)));
+    assert!(rt; forest.room() > 0);
     assert_eq!(rt; run_from(&forest, 1, 0), 3);
     assert_eq!(rt; forest.from(1, Number(4)), Some(Number(5)));
     assert_eq!(rt; forest.from(1, Number(5)), Some(Number(5)));
     assert_eq!(rt; forest.after(1, Number(5)), Some(Number(6)));
     assert_eq!(rt; forest.after(1, Number(9)), None);
+    Ok(())
+}
+
+// Puts a number in its own place, where it is there.
+fn again(forest: &mut Forest<Number>, tree: u32, number: u32)
+    requires { tree < length forest.old.trees }
+    ensures { length forest.new.trees ≡ length forest.old.trees }
+{
+    let item = Number(number);
+    if forest.get(tree, item).is_some() {
+        forest.replace(tree, item);
+    }
+}
+
+// A number is found again, and by what its tree's sums say, and a range is summed.
+#[test]
+fn numbers_are_sought(rt: HostRuntime) -> Result<(), Fail> {
+    let mut forest = Forest::new(rt.alloc(), 2).ok().ok_or("no memory")?;
+    ten(&mut forest).ok().ok_or("no memory")?;
+    assert_eq!(rt; forest.get(1, Number(6)), Some(Number(6)));
+    assert_eq!(rt; forest.get(1, Number(10)), None);
+    assert_eq!(rt; forest.first_passing(1, 7), Some(Number(7)));
+    assert_eq!(rt; forest.first_passing(1, 10), None);
+    assert_eq!(rt; forest.next_passing(1, Number(7), 3), Some(Number(8)));
+    assert_eq!(rt; forest.next_passing(1, Number(9), 3), None);
+    assert_eq!(rt; forest.sum_between(1, Number(2), Number(7)), Some(6));
+    assert_eq!(rt; forest.sum_between(1, Number(7), Number(2)), None);
+    again(&mut forest, 1, 6);
+    assert_eq!(rt; run_from(&forest, 1, 0), 9);
     Ok(())
 }

@@ -1,4 +1,4 @@
-use Rattle.std.proofs.Common.{◌≡◌, ◌∙◌}
+use Rattle.std.proofs.Common.{◌∙◌}
 use Rattle.std.specs.Prelude.{nat_lt}
 use Rattle.sum_trees.specs.declared.tests.Number.{Number}
 use Rattle.sum_trees.proofs.Grown.{item_gone}
