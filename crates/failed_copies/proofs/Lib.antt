@@ -1,1 +1,2 @@
+pub mod OfFile
 pub mod Told

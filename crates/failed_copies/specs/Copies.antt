@@ -1,7 +1,8 @@
 -- Failed copies as jobs, and their order.
-use Rattle.std.specs.Prelude.{List, Bool, map}
+use Rattle.std.specs.Prelude.{ℕ, ◌≡◌, ◌==◌, List, Option, Some, None, Bool, true, false, map}
+use Rattle.std.specs.List.{list_any}
 use Rattle.cta_model.specs.declared.asks.Job.{Job}
-use Rattle.cta_model.specs.Mounts.{job_of}
+use Rattle.cta_model.specs.Mounts.{has_copy, job_of}
 use Rattle.part_values.specs.Order.{goes_before}
 use Rattle.failed_copies.specs.declared.rows.FailedRow.{FailedRow}
 
@@ -16,3 +17,12 @@ copies_of rs = map copy_of rs
 -- whether a copy comes before another: lower file, then lower copy
 abbrev pub row_before : FailedRow → FailedRow → Bool
 row_before a b = goes_before (copy_of a) (copy_of b)
+
+-- whether a copy of the file is among these
+abbrev pub has_file : ℕ → List Job → Bool
+has_file f js = list_any (λ (j : Job). j.file == f) js
+
+-- a copy of the file that is among these, or none where there is none
+abbrev pub IsOfFile : ℕ → List Job → Option Job → Type 0
+IsOfFile f js None = has_file f js ≡ false
+IsOfFile f js (Some job) = (job.file ≡ f) × (has_copy job.file job.copy js ≡ true)

@@ -1,7 +1,8 @@
 // The failed copies.
-ghost use Rattle.std.specs.Prelude.{◌≡◌, ◌+◌, ◌<◌, ◌≤◌, [], ◌∷◌, IfOk, OnOk, false};
+ghost use Rattle.std.specs.Prelude.{◌≡◌, ◌+◌, ◌<◌, ◌≤◌, [], ◌∷◌, IfOk, OnOk, Some, false};
 ghost use Rattle.cta_model.specs.Mounts.{has_copy, job_of};
-ghost use Rattle.part_values.specs.Failed.{added_copies, removed_copies};
+ghost use Rattle.part_values.specs.Failed.{added_copies, removed_copies, removed_file};
+ghost use Rattle.failed_copies.specs.Copies.{IsOfFile};
 ghost use Rattle.part_values.specs.Order.{first_job, next_job};
 
 use crate::rows::FailedRow;
@@ -91,6 +92,33 @@ impl FailedCopies {
         ensures room { self.old.room ≤ self.new.room }
     {
         self.forest.take(0, row_of(job))
+    }
+
+    // The first failed copy of a file, None exactly where it has none.
+    fn of_file(&self, file: u32) -> Option<Job>
+        ensures { IsOfFile file self.now.value result }
+    {
+        match self.forest.from(0, FailedRow { file, copy: 0 }) {
+            None => None,
+            Some(next) => {
+                if next.file == file {
+                    Some(job_of_row(next))
+                } else {
+                    None
+                }
+            }
+        }
+    }
+
+    /// Takes all copies of a file out. It takes no memory. Its cost is the logarithm of the number of copies, for each copy
+    /// that leaves and once more.
+    pub fn take_file(&mut self, file: u32)
+        ensures value { self.new.value ≡ removed_file (Some file) self.old.value }
+        ensures room { self.old.room ≤ self.new.room }
+    {
+        while let Some(job) = self.of_file(file) {
+            let _ = self.take(job);
+        }
     }
 
     /// The first failed copy as a job with birth 0, None exactly where there is none. Its cost is the logarithm of the number

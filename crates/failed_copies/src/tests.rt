@@ -41,5 +41,7 @@ fn copies_stand_in_order(rt: HostRuntime) -> Result<(), Fail> {
     assert!(rt; copies.take(job(1, 3, 1)));
     assert!(rt; !copies.take(job(1, 3, 1)));
     assert_eq!(rt; copies.first(), Some(job(0, 7, 1)));
+    copies.take_file(7);
+    assert_eq!(rt; copies.first(), None);
     Ok(())
 }

@@ -1,4 +1,5 @@
 pub mod Looks
 pub mod Changes
 pub mod Steps
-pub mod Claims
+pub mod ClaimedJobs
+pub mod Counts

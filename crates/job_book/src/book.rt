@@ -7,7 +7,7 @@ ghost use Rattle.part_values.specs.JobBook.{TellSame};
 ghost use Rattle.part_values.specs.JobRows.{book_in, no_rows};
 ghost use Rattle.job_book.specs.Live.{lives};
 
-use crate::maps::any_claim;
+use crate::claims::Claims;
 use crate::waiting::{count_waiting, tell_waiting};
 use cta_model::{Charge, Fault, Job};
 use cta_site::{NoMemory, Rows};
@@ -40,7 +40,7 @@ pub struct JobBook {
     pub(crate) recalls: HashMap<u32, RecallRow>,
     pub(crate) archives: HashMap<(u32, u8), u32>,
     pub(crate) births: HashMap<(u32, u8), u32>,
-    pub(crate) claims: HashMap<JobKey, u32>,
+    pub(crate) claims: Claims,
     pub(crate) counts: HashMap<JobKey, u8>,
     pub(crate) charges: HashMap<(JobKey, u8), Charge>,
     pub(crate) named: HashMap<JobKey, u32>,
@@ -59,7 +59,7 @@ impl Model for JobBook {
 
     ghost view = { λ b. record { value = rows_of (record { waiting = b.waiting.entries; recalls = b.recalls.entries; archives = b.archives.entries; births = b.births.entries; claims = b.claims.entries; counts = b.counts.entries; charges = b.charges.entries; named = b.named.entries }); room = b.room } };
 
-    ghost invariant = { λ b. (b.room ≤ spare b.waiting) × (b.room ≤ spare b.recalls) × (b.room ≤ spare b.archives) × (b.room ≤ spare b.births) × (b.room ≤ spare b.claims) × (b.room ≤ spare b.counts) × (b.room ≤ spare b.charges) × (b.room ≤ spare b.named) × ((f : ℕ) → places_in b.recalls.entries f ≤ b.added) × (b.added + b.room < 2 ^ 64) };
+    ghost invariant = { λ b. (b.room ≤ spare b.waiting) × (b.room ≤ spare b.recalls) × (b.room ≤ spare b.archives) × (b.room ≤ spare b.births) × (b.room ≤ b.claims.room) × (b.room ≤ spare b.counts) × (b.room ≤ spare b.charges) × (b.room ≤ spare b.named) × ((f : ℕ) → places_in b.recalls.entries f ≤ b.added) × (b.added + b.room < 2 ^ 64) };
 }
 
 impl JobBook {
@@ -72,7 +72,7 @@ impl JobBook {
             recalls: HashMap::new(alloc),
             archives: HashMap::new(alloc),
             births: HashMap::new(alloc),
-            claims: HashMap::new(alloc),
+            claims: Claims::new(alloc),
             counts: HashMap::new(alloc),
             charges: HashMap::new(alloc),
             named: HashMap::new(alloc),
@@ -146,15 +146,15 @@ impl JobBook {
     pub fn claimer(&self, job: Job) -> Option<u32>
         ensures { result ≡ (book_in self.now.value).claimer job }
     {
-        self.claims.get(&(job.birth, job.file, job.copy)).copied()
+        self.claims.get((job.birth, job.file, job.copy))
     }
 
-    /// Whether a mount claims any job. Its cost is the number of claimed jobs.
+    /// Whether a mount claims any job. In constant time.
     pub fn has_claims(&self, mount: u32) -> bool
         ensures some { result ≡ true → (j : Job) × ((book_in self.now.value).claimer j ≡ Some mount) }
         ensures none { result ≡ false → (j : Job) → (book_in self.now.value).claimer j ≢ Some mount }
     {
-        any_claim(&self.claims, mount)
+        self.claims.has(mount)
     }
 
     /// How often a job was charged, in constant time.

@@ -23,7 +23,7 @@ impl JobBook {
         make_room(&mut self.recalls, jobs)?;
         make_room(&mut self.archives, jobs)?;
         make_room(&mut self.births, jobs)?;
-        make_room(&mut self.claims, jobs)?;
+        self.claims.reserve(jobs)?;
         make_room(&mut self.counts, jobs)?;
         make_room(&mut self.charges, jobs)?;
         make_room(&mut self.named, jobs)?;
@@ -126,7 +126,7 @@ impl JobBook {
         ensures room { self.old.room ≤ self.new.room + 1 }
     {
         let key = (job.birth, job.file, job.copy);
-        put(&mut self.claims, key, mount);
+        self.claims.put(key, mount);
         put(&mut self.named, key, mount);
         self.room -= 1;
     }
@@ -136,7 +136,7 @@ impl JobBook {
         ensures book { TellSame (book_in self.new.value) (said.give_back_jobs (job ∷ []) (book_in self.old.value)) }
         ensures room { self.old.room ≤ self.new.room }
     {
-        take_out(&mut self.claims, (job.birth, job.file, job.copy));
+        self.claims.take_out((job.birth, job.file, job.copy));
     }
 
     /// A job is charged for a fault of a drive with a tape, fewer than 255 times before. It gives the number of its charges with this

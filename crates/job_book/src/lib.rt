@@ -4,6 +4,7 @@
 
 mod book;
 mod calls;
+mod claims;
 mod maps;
 mod waiting;
 

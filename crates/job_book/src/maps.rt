@@ -1,8 +1,6 @@
 // Maps with room for more.
 ghost use Rattle.std.specs.Prelude.{◌≡◌, ◌==◌, ◌+◌, ◌<◌, ◌≤◌, Some, None, if◌then◌else◌, OnOk};
-ghost use Rattle.std.specs.HashMap.{get, spare, values, IsUnique};
-ghost use Rattle.std.specs.List.{list_any};
-ghost use Rattle.job_book.specs.Maps.{is_key};
+ghost use Rattle.std.specs.HashMap.{get, spare};
 
 use cta_site::NoMemory;
 use std::collections::HashMap;
@@ -36,13 +34,4 @@ pub(crate) fn take_out<K: Eq + Hash + Drop, V: Drop>(map: &mut HashMap<K, V>, ke
     ensures room { spare map.old ≤ spare map.new }
 {
     let _ = map.remove(&key);
-}
-
-// Whether a claim is of this mount.
-pub(crate) fn any_claim(claims: &HashMap<(u32, u32, u8), u32>, mount: u32) -> bool
-    ensures any { result ≡ list_any (λ m. m == mount) (values claims.now) }
-    ensures unique { IsUnique is_key claims.now }
-{
-    let _count = claims.len();
-    claims.values().any(|claimer| *claimer == mount)
 }

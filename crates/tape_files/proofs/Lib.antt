@@ -1,1 +1,5 @@
+pub mod Added
 pub mod Looks
+pub mod Told
+pub mod Trees
+pub mod Walks

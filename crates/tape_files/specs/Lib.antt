@@ -1,2 +1,5 @@
+pub mod Counts
+pub mod Indexed
 pub mod Kept
+pub mod Live
 pub mod Sources

@@ -3,16 +3,16 @@ ghost use Rattle.std.specs.Prelude.{◌≡◌, ℕ, ◌+◌, ◌<◌, ◌≤◌,
 ghost use Rattle.part_values.specs.Tapes as said;
 ghost use Rattle.part_values.specs.Tapes.{HasTurned, HasDropped, HasFlushed, TablesAgree, row_in, place_in, live_in, is_whole_place};
 ghost use Rattle.tape_files.specs.Kept.{fresh_row};
+ghost use Rattle.tape_files.specs.Live.{IsNextLive};
 ghost use Rattle.tape_files.specs.Sources.{sources_in};
 
-use crate::places::{count_on, make_room, put, take_file_out};
+use crate::index::PlaceIndex;
 use crate::sources::{nth, readable, whole};
 use crate::tapes::{fresh_rows, row_at, set_row};
 use cta_model::{Fate, Item, Place};
 use cta_site::{NoMemory, TapeState, ValidSite};
-use part_values::TapeRow;
+use part_values::{Placed, TapeRow};
 use std::alloc::Global;
-use std::collections::HashMap;
 use std::marker::Model;
 
 /// The tapes of a site, what is used of each, the fSeq that its next item gets, its state, and the places of copies. Tapes
@@ -20,21 +20,19 @@ use std::marker::Model;
 #[derive(Drop)]
 pub struct TapeFiles {
     rows: Vec<TapeRow>,
-    places: HashMap<(u32, u8), Place>,
+    index: PlaceIndex,
 }
 
 impl Model for TapeFiles {
-    ghost use Rattle.std.specs.Prelude.{map};
-    ghost use Rattle.std.specs.HashMap.{spare, IsUnique};
     ghost use Rattle.part_values.specs.Room.{Roomed};
     ghost use Rattle.part_values.specs.Tapes.{Table};
-    ghost use Rattle.tape_files.specs.Kept.{AreCopies, placed_row, same_copy};
+    ghost use Rattle.tape_files.specs.Indexed.{AreFiled};
 
     ghost Value = { Roomed Table };
 
-    ghost view = { λ t. record { value = record { rows = t.rows.items; places = map placed_row t.places.entries }; room = spare t.places } };
+    ghost view = { λ t. record { value = record { rows = t.rows.items; places = t.index.places }; room = t.index.room } };
 
-    ghost invariant = { λ t. IsUnique same_copy t.places × AreCopies t.places.entries };
+    ghost invariant = { λ t. AreFiled t.rows.items t.index };
 }
 
 impl TapeFiles {
@@ -43,9 +41,10 @@ impl TapeFiles {
         ensures rows { IfOk result (λ table. table.value.rows ≡ map fresh_row site.now.tapes.items) }
         ensures places { IfOk result (λ table. table.value.places ≡ []) }
     {
+        site.keeps_rules();
         let rows = fresh_rows(alloc, site.tapes())?;
-        let places = HashMap::new(alloc);
-        Ok(TapeFiles { rows, places })
+        let index = PlaceIndex::new(alloc, rows.len() as u32)?;
+        Ok(TapeFiles { rows, index })
     }
 
     /// Makes room for at least this many more places, and never makes the room smaller. NoMemory changes nothing that the
@@ -56,7 +55,7 @@ impl TapeFiles {
         ensures room { OnOk result (items ≤ self.new.room) }
         ensures kept { self.old.room ≤ self.new.room }
     {
-        make_room(&mut self.places, items)
+        self.index.reserve(items)
     }
 
     /// The row of a tape: its used bytes, the fSeq of its next item, and its state. In constant time.
@@ -70,14 +69,14 @@ impl TapeFiles {
     pub fn place(&self, file: u32, copy: u8) -> Option<Place>
         ensures { result ≡ place_in self.now.value file copy }
     {
-        self.places.get(&(file, copy)).copied()
+        self.index.place(file, copy)
     }
 
     /// For how many more places there is room, in constant time.
     pub fn room(&self) -> usize
         ensures { result ≡ self.now.room }
     {
-        self.places.capacity() - self.places.len()
+        self.index.room()
     }
 
     /// How many tapes there are, in constant time.
@@ -97,11 +96,28 @@ impl TapeFiles {
         }
     }
 
-    /// How many copies have their place on a tape. Its cost is the number of places.
-    pub fn live(&self, tape: u32) -> usize
+    /// How many copies have their place on a tape, 0 for a tape that is not there. In constant time.
+    pub fn live(&self, tape: u32) -> u32
         ensures { result ≡ live_in self.now.value tape }
     {
-        count_on(&self.places, tape)
+        if (tape as usize) < self.rows.len() {
+            return self.index.live(tape);
+        }
+        self.index.none_beyond(tape, 0);
+        0
+    }
+
+    /// The first copy, by fSeq, that has its place on a tape at this fSeq or behind it; None exactly where there is none. Asked
+    /// again with the next fSeq behind each copy, it passes all live copies of the tape (`walks_pass_all`). Its cost is the
+    /// logarithm of their number.
+    pub fn next_live(&self, tape: u32, fseq: u32) -> Option<Placed>
+        ensures { IsNextLive self.now.value.places tape fseq result }
+    {
+        if (tape as usize) < self.rows.len() {
+            return self.index.next(tape, fseq);
+        }
+        self.index.none_beyond(tape, fseq);
+        None
     }
 
     /// A source of a file by its number from 0; None exactly from their number on. In constant time.
@@ -169,10 +185,11 @@ impl TapeFiles {
         set_row(&mut self.rows, tape, TapeRow { state, ..row });
     }
 
-    /// A tape of the site is written from its beginning again: nothing is used, and its next item gets the fSeq 1. It takes no
-    /// memory and constant time.
+    /// A tape of the site, on which no copy has its place, is written from its beginning again: nothing is used, and its next
+    /// item gets the fSeq 1. It takes no memory and constant time.
     pub fn reclaim(&mut self, tape: u32)
-        requires { tape < length self.old.value.rows }
+        requires tape { tape < length self.old.value.rows }
+        requires empty { live_in self.old.value tape ≡ 0 }
         ensures table { HasTurned tape said.reclaimed_row self.old.value self.new.value }
         ensures tapes { length self.new.value.rows ≡ length self.old.value.rows }
         ensures room { self.old.room ≤ self.new.room }
@@ -195,6 +212,8 @@ impl TapeFiles {
         requires tape { tape < length self.old.value.rows }
         requires room { 0 < self.old.room }
         requires next { (row_in self.old.value tape).next + 1 < 2 ^ 32 }
+        requires first { 1 ≤ item.job.copy }
+        requires last { item.job.copy ≤ 4 }
         ensures table { HasFlushed tape (item, fate) self.old.value self.new.value }
         ensures fseq { result ≡ (row_in self.old.value tape).next }
         ensures tapes { length self.new.value.rows ≡ length self.old.value.rows }
@@ -206,17 +225,18 @@ impl TapeFiles {
         set_row(&mut self.rows, tape, TapeRow { next, ..row });
         if fate == Fate::Done {
             let copy = item.job.copy;
-            put(&mut self.places, item.job.file, Place { copy, tape, fseq });
+            self.index.put(item.job.file, Place { copy, tape, fseq });
         }
         fseq
     }
 
-    /// No copy of the file has a place any more. It takes no memory, and its cost is that of 256 look-ups.
+    /// No copy of the file has a place any more. It takes no memory, and its cost is the logarithm of the number of copies on
+    /// their tapes.
     pub fn drop_file(&mut self, file: u32)
         ensures table { HasDropped file self.old.value self.new.value }
         ensures tapes { length self.new.value.rows ≡ length self.old.value.rows }
         ensures room { self.old.room ≤ self.new.room }
     {
-        take_file_out(&mut self.places, file);
+        self.index.forget_file(file);
     }
 }

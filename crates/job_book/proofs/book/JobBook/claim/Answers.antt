@@ -8,4 +8,4 @@ use Rattle.job_book.proofs.book.JobBook.claim.Goals as goal
 pub returns-clause-book : goal.returns-clause-book
 returns-clause-book c =
     let m : Maps = record { waiting = c.self.inside.waiting.entries; recalls = c.self.inside.recalls.entries; archives = c.self.inside.archives.entries; births = c.self.inside.births.entries; claims = c.self.inside.claims.entries; counts = c.self.inside.counts.entries; charges = c.self.inside.charges.entries; named = c.self.inside.named.entries } in
-    claim-tells m c.args.self.now.value c.put.new.map.entries c.put-2.new.map.entries c.args.job c.args.mount (ap (λ (v : Roomed JobRows). v.value) c.self.view_is) c.put.ensures.values c.put-2.ensures.values
+    claim-tells m c.args.self.now.value c.put.new.self.entries c.put-2.new.map.entries c.args.job c.args.mount (ap (λ (v : Roomed JobRows). v.value) c.self.view_is) c.put.ensures.values c.put-2.ensures.values

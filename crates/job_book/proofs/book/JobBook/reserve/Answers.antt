@@ -40,6 +40,16 @@ returns-in_err-make_room-4-clause-book c =
     let m : Maps = record { waiting = c.self.inside.waiting.entries; recalls = c.self.inside.recalls.entries; archives = c.self.inside.archives.entries; births = c.self.inside.births.entries; claims = c.self.inside.claims.entries; counts = c.self.inside.counts.entries; charges = c.self.inside.charges.entries; named = c.self.inside.named.entries } in
     same-tells m (record { waiting = c.make_room.new.map.entries; recalls = c.make_room-2.new.map.entries; archives = c.make_room-3.new.map.entries; births = c.make_room-4.new.map.entries; claims = c.self.inside.claims.entries; counts = c.self.inside.counts.entries; charges = c.self.inside.charges.entries; named = c.self.inside.named.entries }) c.args.self.now.value (ap (λ (v : Roomed JobRows). v.value) c.self.view_is) c.make_room.ensures.values c.make_room-2.ensures.values c.make_room-3.ensures.values c.make_room-4.ensures.values (λ q. refl) (λ q. refl) (λ q. refl) (λ q. refl)
 
+pub invariant_of-self-in_err-reserve : goal.invariant_of-self-in_err-reserve
+invariant_of-self-in_err-reserve c =
+    let m : Maps = record { waiting = c.self.inside.waiting.entries; recalls = c.self.inside.recalls.entries; archives = c.self.inside.archives.entries; births = c.self.inside.births.entries; claims = c.self.inside.claims.entries; counts = c.self.inside.counts.entries; charges = c.self.inside.charges.entries; named = c.self.inside.named.entries } in
+    (omega arith, omega arith, omega arith, omega arith, omega arith, omega arith, omega arith, omega arith, places_same m.recalls c.make_room-2.new.map.entries c.self.inside.added c.make_room-2.ensures.values c.self.invariant.8, omega arith)
+
+pub returns-in_err-reserve-clause-book : goal.returns-in_err-reserve-clause-book
+returns-in_err-reserve-clause-book c =
+    let m : Maps = record { waiting = c.self.inside.waiting.entries; recalls = c.self.inside.recalls.entries; archives = c.self.inside.archives.entries; births = c.self.inside.births.entries; claims = c.self.inside.claims.entries; counts = c.self.inside.counts.entries; charges = c.self.inside.charges.entries; named = c.self.inside.named.entries } in
+    same-tells m (record { waiting = c.make_room.new.map.entries; recalls = c.make_room-2.new.map.entries; archives = c.make_room-3.new.map.entries; births = c.make_room-4.new.map.entries; claims = c.reserve.new.self.entries; counts = c.self.inside.counts.entries; charges = c.self.inside.charges.entries; named = c.self.inside.named.entries }) c.args.self.now.value (ap (λ (v : Roomed JobRows). v.value) c.self.view_is) c.make_room.ensures.values c.make_room-2.ensures.values c.make_room-3.ensures.values c.make_room-4.ensures.values c.reserve.ensures.values (λ q. refl) (λ q. refl) (λ q. refl)
+
 pub invariant_of-self-in_err-make_room-5 : goal.invariant_of-self-in_err-make_room-5
 invariant_of-self-in_err-make_room-5 c =
     let m : Maps = record { waiting = c.self.inside.waiting.entries; recalls = c.self.inside.recalls.entries; archives = c.self.inside.archives.entries; births = c.self.inside.births.entries; claims = c.self.inside.claims.entries; counts = c.self.inside.counts.entries; charges = c.self.inside.charges.entries; named = c.self.inside.named.entries } in
@@ -48,7 +58,7 @@ invariant_of-self-in_err-make_room-5 c =
 pub returns-in_err-make_room-5-clause-book : goal.returns-in_err-make_room-5-clause-book
 returns-in_err-make_room-5-clause-book c =
     let m : Maps = record { waiting = c.self.inside.waiting.entries; recalls = c.self.inside.recalls.entries; archives = c.self.inside.archives.entries; births = c.self.inside.births.entries; claims = c.self.inside.claims.entries; counts = c.self.inside.counts.entries; charges = c.self.inside.charges.entries; named = c.self.inside.named.entries } in
-    same-tells m (record { waiting = c.make_room.new.map.entries; recalls = c.make_room-2.new.map.entries; archives = c.make_room-3.new.map.entries; births = c.make_room-4.new.map.entries; claims = c.make_room-5.new.map.entries; counts = c.self.inside.counts.entries; charges = c.self.inside.charges.entries; named = c.self.inside.named.entries }) c.args.self.now.value (ap (λ (v : Roomed JobRows). v.value) c.self.view_is) c.make_room.ensures.values c.make_room-2.ensures.values c.make_room-3.ensures.values c.make_room-4.ensures.values c.make_room-5.ensures.values (λ q. refl) (λ q. refl) (λ q. refl)
+    same-tells m (record { waiting = c.make_room.new.map.entries; recalls = c.make_room-2.new.map.entries; archives = c.make_room-3.new.map.entries; births = c.make_room-4.new.map.entries; claims = c.reserve.new.self.entries; counts = c.make_room-5.new.map.entries; charges = c.self.inside.charges.entries; named = c.self.inside.named.entries }) c.args.self.now.value (ap (λ (v : Roomed JobRows). v.value) c.self.view_is) c.make_room.ensures.values c.make_room-2.ensures.values c.make_room-3.ensures.values c.make_room-4.ensures.values c.reserve.ensures.values c.make_room-5.ensures.values (λ q. refl) (λ q. refl)
 
 pub invariant_of-self-in_err-make_room-6 : goal.invariant_of-self-in_err-make_room-6
 invariant_of-self-in_err-make_room-6 c =
@@ -58,7 +68,7 @@ invariant_of-self-in_err-make_room-6 c =
 pub returns-in_err-make_room-6-clause-book : goal.returns-in_err-make_room-6-clause-book
 returns-in_err-make_room-6-clause-book c =
     let m : Maps = record { waiting = c.self.inside.waiting.entries; recalls = c.self.inside.recalls.entries; archives = c.self.inside.archives.entries; births = c.self.inside.births.entries; claims = c.self.inside.claims.entries; counts = c.self.inside.counts.entries; charges = c.self.inside.charges.entries; named = c.self.inside.named.entries } in
-    same-tells m (record { waiting = c.make_room.new.map.entries; recalls = c.make_room-2.new.map.entries; archives = c.make_room-3.new.map.entries; births = c.make_room-4.new.map.entries; claims = c.make_room-5.new.map.entries; counts = c.make_room-6.new.map.entries; charges = c.self.inside.charges.entries; named = c.self.inside.named.entries }) c.args.self.now.value (ap (λ (v : Roomed JobRows). v.value) c.self.view_is) c.make_room.ensures.values c.make_room-2.ensures.values c.make_room-3.ensures.values c.make_room-4.ensures.values c.make_room-5.ensures.values c.make_room-6.ensures.values (λ q. refl) (λ q. refl)
+    same-tells m (record { waiting = c.make_room.new.map.entries; recalls = c.make_room-2.new.map.entries; archives = c.make_room-3.new.map.entries; births = c.make_room-4.new.map.entries; claims = c.reserve.new.self.entries; counts = c.make_room-5.new.map.entries; charges = c.make_room-6.new.map.entries; named = c.self.inside.named.entries }) c.args.self.now.value (ap (λ (v : Roomed JobRows). v.value) c.self.view_is) c.make_room.ensures.values c.make_room-2.ensures.values c.make_room-3.ensures.values c.make_room-4.ensures.values c.reserve.ensures.values c.make_room-5.ensures.values c.make_room-6.ensures.values (λ q. refl)
 
 pub invariant_of-self-in_err-make_room-7 : goal.invariant_of-self-in_err-make_room-7
 invariant_of-self-in_err-make_room-7 c =
@@ -68,17 +78,7 @@ invariant_of-self-in_err-make_room-7 c =
 pub returns-in_err-make_room-7-clause-book : goal.returns-in_err-make_room-7-clause-book
 returns-in_err-make_room-7-clause-book c =
     let m : Maps = record { waiting = c.self.inside.waiting.entries; recalls = c.self.inside.recalls.entries; archives = c.self.inside.archives.entries; births = c.self.inside.births.entries; claims = c.self.inside.claims.entries; counts = c.self.inside.counts.entries; charges = c.self.inside.charges.entries; named = c.self.inside.named.entries } in
-    same-tells m (record { waiting = c.make_room.new.map.entries; recalls = c.make_room-2.new.map.entries; archives = c.make_room-3.new.map.entries; births = c.make_room-4.new.map.entries; claims = c.make_room-5.new.map.entries; counts = c.make_room-6.new.map.entries; charges = c.make_room-7.new.map.entries; named = c.self.inside.named.entries }) c.args.self.now.value (ap (λ (v : Roomed JobRows). v.value) c.self.view_is) c.make_room.ensures.values c.make_room-2.ensures.values c.make_room-3.ensures.values c.make_room-4.ensures.values c.make_room-5.ensures.values c.make_room-6.ensures.values c.make_room-7.ensures.values (λ q. refl)
-
-pub invariant_of-self-in_err-make_room-8 : goal.invariant_of-self-in_err-make_room-8
-invariant_of-self-in_err-make_room-8 c =
-    let m : Maps = record { waiting = c.self.inside.waiting.entries; recalls = c.self.inside.recalls.entries; archives = c.self.inside.archives.entries; births = c.self.inside.births.entries; claims = c.self.inside.claims.entries; counts = c.self.inside.counts.entries; charges = c.self.inside.charges.entries; named = c.self.inside.named.entries } in
-    (omega arith, omega arith, omega arith, omega arith, omega arith, omega arith, omega arith, omega arith, places_same m.recalls c.make_room-2.new.map.entries c.self.inside.added c.make_room-2.ensures.values c.self.invariant.8, omega arith)
-
-pub returns-in_err-make_room-8-clause-book : goal.returns-in_err-make_room-8-clause-book
-returns-in_err-make_room-8-clause-book c =
-    let m : Maps = record { waiting = c.self.inside.waiting.entries; recalls = c.self.inside.recalls.entries; archives = c.self.inside.archives.entries; births = c.self.inside.births.entries; claims = c.self.inside.claims.entries; counts = c.self.inside.counts.entries; charges = c.self.inside.charges.entries; named = c.self.inside.named.entries } in
-    same-tells m (record { waiting = c.make_room.new.map.entries; recalls = c.make_room-2.new.map.entries; archives = c.make_room-3.new.map.entries; births = c.make_room-4.new.map.entries; claims = c.make_room-5.new.map.entries; counts = c.make_room-6.new.map.entries; charges = c.make_room-7.new.map.entries; named = c.make_room-8.new.map.entries }) c.args.self.now.value (ap (λ (v : Roomed JobRows). v.value) c.self.view_is) c.make_room.ensures.values c.make_room-2.ensures.values c.make_room-3.ensures.values c.make_room-4.ensures.values c.make_room-5.ensures.values c.make_room-6.ensures.values c.make_room-7.ensures.values c.make_room-8.ensures.values
+    same-tells m (record { waiting = c.make_room.new.map.entries; recalls = c.make_room-2.new.map.entries; archives = c.make_room-3.new.map.entries; births = c.make_room-4.new.map.entries; claims = c.reserve.new.self.entries; counts = c.make_room-5.new.map.entries; charges = c.make_room-6.new.map.entries; named = c.make_room-7.new.map.entries }) c.args.self.now.value (ap (λ (v : Roomed JobRows). v.value) c.self.view_is) c.make_room.ensures.values c.make_room-2.ensures.values c.make_room-3.ensures.values c.make_room-4.ensures.values c.reserve.ensures.values c.make_room-5.ensures.values c.make_room-6.ensures.values c.make_room-7.ensures.values
 
 pub invariant_of-self-then-self-jobs : goal.invariant_of-self-then-self-jobs
 invariant_of-self-then-self-jobs c =
@@ -88,7 +88,7 @@ invariant_of-self-then-self-jobs c =
 pub returns-then-self-jobs-clause-book : goal.returns-then-self-jobs-clause-book
 returns-then-self-jobs-clause-book c =
     let m : Maps = record { waiting = c.self.inside.waiting.entries; recalls = c.self.inside.recalls.entries; archives = c.self.inside.archives.entries; births = c.self.inside.births.entries; claims = c.self.inside.claims.entries; counts = c.self.inside.counts.entries; charges = c.self.inside.charges.entries; named = c.self.inside.named.entries } in
-    same-tells m (record { waiting = c.make_room.new.map.entries; recalls = c.make_room-2.new.map.entries; archives = c.make_room-3.new.map.entries; births = c.make_room-4.new.map.entries; claims = c.make_room-5.new.map.entries; counts = c.make_room-6.new.map.entries; charges = c.make_room-7.new.map.entries; named = c.make_room-8.new.map.entries }) c.args.self.now.value (ap (λ (v : Roomed JobRows). v.value) c.self.view_is) c.make_room.ensures.values c.make_room-2.ensures.values c.make_room-3.ensures.values c.make_room-4.ensures.values c.make_room-5.ensures.values c.make_room-6.ensures.values c.make_room-7.ensures.values c.make_room-8.ensures.values
+    same-tells m (record { waiting = c.make_room.new.map.entries; recalls = c.make_room-2.new.map.entries; archives = c.make_room-3.new.map.entries; births = c.make_room-4.new.map.entries; claims = c.reserve.new.self.entries; counts = c.make_room-5.new.map.entries; charges = c.make_room-6.new.map.entries; named = c.make_room-7.new.map.entries }) c.args.self.now.value (ap (λ (v : Roomed JobRows). v.value) c.self.view_is) c.make_room.ensures.values c.make_room-2.ensures.values c.make_room-3.ensures.values c.make_room-4.ensures.values c.reserve.ensures.values c.make_room-5.ensures.values c.make_room-6.ensures.values c.make_room-7.ensures.values
 
 pub invariant_of-self-then-from-self : goal.invariant_of-self-then-from-self
 invariant_of-self-then-from-self c =
@@ -98,14 +98,14 @@ invariant_of-self-then-from-self c =
 pub returns-then-from-self-clause-book : goal.returns-then-from-self-clause-book
 returns-then-from-self-clause-book c =
     let m : Maps = record { waiting = c.self.inside.waiting.entries; recalls = c.self.inside.recalls.entries; archives = c.self.inside.archives.entries; births = c.self.inside.births.entries; claims = c.self.inside.claims.entries; counts = c.self.inside.counts.entries; charges = c.self.inside.charges.entries; named = c.self.inside.named.entries } in
-    same-tells m (record { waiting = c.make_room.new.map.entries; recalls = c.make_room-2.new.map.entries; archives = c.make_room-3.new.map.entries; births = c.make_room-4.new.map.entries; claims = c.make_room-5.new.map.entries; counts = c.make_room-6.new.map.entries; charges = c.make_room-7.new.map.entries; named = c.make_room-8.new.map.entries }) c.args.self.now.value (ap (λ (v : Roomed JobRows). v.value) c.self.view_is) c.make_room.ensures.values c.make_room-2.ensures.values c.make_room-3.ensures.values c.make_room-4.ensures.values c.make_room-5.ensures.values c.make_room-6.ensures.values c.make_room-7.ensures.values c.make_room-8.ensures.values
+    same-tells m (record { waiting = c.make_room.new.map.entries; recalls = c.make_room-2.new.map.entries; archives = c.make_room-3.new.map.entries; births = c.make_room-4.new.map.entries; claims = c.reserve.new.self.entries; counts = c.make_room-5.new.map.entries; charges = c.make_room-6.new.map.entries; named = c.make_room-7.new.map.entries }) c.args.self.now.value (ap (λ (v : Roomed JobRows). v.value) c.self.view_is) c.make_room.ensures.values c.make_room-2.ensures.values c.make_room-3.ensures.values c.make_room-4.ensures.values c.reserve.ensures.values c.make_room-5.ensures.values c.make_room-6.ensures.values c.make_room-7.ensures.values
 
 pub invariant_of-self-2 : goal.invariant_of-self-2
 invariant_of-self-2 c =
     let m : Maps = record { waiting = c.self.inside.waiting.entries; recalls = c.self.inside.recalls.entries; archives = c.self.inside.archives.entries; births = c.self.inside.births.entries; claims = c.self.inside.claims.entries; counts = c.self.inside.counts.entries; charges = c.self.inside.charges.entries; named = c.self.inside.named.entries } in
-    (omega (arith, c.in_ok-make_room.ensures.room), omega (arith, c.in_ok-make_room-2.ensures.room), omega (arith, c.in_ok-make_room-3.ensures.room), omega (arith, c.in_ok-make_room-4.ensures.room), omega (arith, c.in_ok-make_room-5.ensures.room), omega (arith, c.in_ok-make_room-6.ensures.room), omega (arith, c.in_ok-make_room-7.ensures.room), omega (arith, c.in_ok-make_room-8.ensures.room), places_same m.recalls c.make_room-2.new.map.entries c.self.inside.added c.make_room-2.ensures.values c.self.invariant.8, omega arith)
+    (omega (arith, c.in_ok-make_room.ensures.room), omega (arith, c.in_ok-make_room-2.ensures.room), omega (arith, c.in_ok-make_room-3.ensures.room), omega (arith, c.in_ok-make_room-4.ensures.room), omega (arith, c.in_ok-reserve.ensures.room), omega (arith, c.in_ok-make_room-5.ensures.room), omega (arith, c.in_ok-make_room-6.ensures.room), omega (arith, c.in_ok-make_room-7.ensures.room), places_same m.recalls c.make_room-2.new.map.entries c.self.inside.added c.make_room-2.ensures.values c.self.invariant.8, omega arith)
 
 pub returns-clause-book : goal.returns-clause-book
 returns-clause-book c =
     let m : Maps = record { waiting = c.self.inside.waiting.entries; recalls = c.self.inside.recalls.entries; archives = c.self.inside.archives.entries; births = c.self.inside.births.entries; claims = c.self.inside.claims.entries; counts = c.self.inside.counts.entries; charges = c.self.inside.charges.entries; named = c.self.inside.named.entries } in
-    same-tells m (record { waiting = c.make_room.new.map.entries; recalls = c.make_room-2.new.map.entries; archives = c.make_room-3.new.map.entries; births = c.make_room-4.new.map.entries; claims = c.make_room-5.new.map.entries; counts = c.make_room-6.new.map.entries; charges = c.make_room-7.new.map.entries; named = c.make_room-8.new.map.entries }) c.args.self.now.value (ap (λ (v : Roomed JobRows). v.value) c.self.view_is) c.make_room.ensures.values c.make_room-2.ensures.values c.make_room-3.ensures.values c.make_room-4.ensures.values c.make_room-5.ensures.values c.make_room-6.ensures.values c.make_room-7.ensures.values c.make_room-8.ensures.values
+    same-tells m (record { waiting = c.make_room.new.map.entries; recalls = c.make_room-2.new.map.entries; archives = c.make_room-3.new.map.entries; births = c.make_room-4.new.map.entries; claims = c.reserve.new.self.entries; counts = c.make_room-5.new.map.entries; charges = c.make_room-6.new.map.entries; named = c.make_room-7.new.map.entries }) c.args.self.now.value (ap (λ (v : Roomed JobRows). v.value) c.self.view_is) c.make_room.ensures.values c.make_room-2.ensures.values c.make_room-3.ensures.values c.make_room-4.ensures.values c.reserve.ensures.values c.make_room-5.ensures.values c.make_room-6.ensures.values c.make_room-7.ensures.values

@@ -5,5 +5,4 @@ use Rattle.tape_files.proofs.Looks.{tables_agree}
 use Rattle.tape_files.proofs.table.TapeFiles.reserve.Goals as goal
 
 pub returns-clause-table : goal.returns-clause-table
-returns-clause-table c =
-    tables_agree c.self.inside.rows.items c.self.inside.places.entries c.make_room.new.places.entries c.args.self.now.value (ap (λ (v : Roomed Table). v.value) c.self.view_is) c.make_room.ensures.unique c.make_room.ensures.places
+returns-clause-table c = tables_agree c.self.inside.rows.items c.self.inside.index.places c.reserve.new.self.places c.args.self.now.value (ap (λ (v : Roomed Table). v.value) c.self.view_is) c.self.invariant.distinct c.reserve.ensures.places

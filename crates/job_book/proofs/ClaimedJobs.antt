@@ -20,7 +20,7 @@ none_of mount (e ∷ es) none k found = by (e.1 == mount) refl none (is_key k e.
     by false miss none true found rest = (let same : e.1 ≡ mount = cc in let hit : (e.1 == mount) ≡ true = eq-eqb e.1 mount same in absurd (cc))
     by false miss none false found rest = rest none k found
 
-same_self : (k : JobKey) → is_key k k ≡ true
+pub same_self : (k : JobKey) → is_key k k ≡ true
 same_self k = three (k.0 == k.0) (k.1 == k.1) (k.2 == k.2) (eq-eqb k.0 k.0 refl) (eq-eqb k.1 k.1 refl) (eq-eqb k.2 k.2 refl)
   where
     three : (a b c : Bool) → a ≡ true → b ≡ true → c ≡ true → ((a && b) && c) ≡ true
