@@ -1,0 +1,24 @@
+use Rattle.std.proofs.Common.{◌∙◌, refl, ap}
+use Rattle.sum_trees.specs.Forests.{items_in}
+use Rattle.disk_buffer.specs.Stays.{Arrived, flagged, stays_of, with_flag}
+use Rattle.disk_buffer.proofs.PinLists.{set_length_one}
+use Rattle.disk_buffer.proofs.Found.{told_row, told_no_row}
+use Rattle.disk_buffer.proofs.Changed.{absent_flag, flagged_keeps, flagged_stays, kept_as, kept_touched, replaced_tree, touched}
+use Rattle.disk_buffer.proofs.arrivals.Arrivals.set_flag.Goals as goal
+
+pub returns-in_default-clause-stays : goal.returns-in_default-clause-stays
+returns-in_default-clause-stays c =
+    absent_flag c.args.file c.args.safe (items_in c.self.inside.forest.trees 0) c.args.self.now.stays (ap (λ (v : Arrived). v.stays) c.self.view_is) (told_no_row c.args.file (items_in c.self.inside.forest.trees 0) c.row_of.result c.in_default.is c.row_of.ensures)
+
+pub invariant_of-self : goal.invariant_of-self
+invariant_of-self c = (
+  set_length_one _ _ _ c.self.invariant.0 c.replace.ensures.trees,
+  kept_as _ (touched c.args.file (flagged c.args.safe c.self.inside.clock) (items_in c.self.inside.forest.trees 0)) _ _ _ _ (replaced_tree c.self.inside.forest.trees c.replace.new.self.trees c.args.file c.in-Some.row c.flagged.result (flagged c.args.safe c.self.inside.clock) (flagged_keeps c.args.safe c.self.inside.clock) c.self.invariant.0 c.flagged.ensures (told_row c.args.file (items_in c.self.inside.forest.trees 0) c.row_of.result c.in-Some.row c.in-Some.is c.row_of.ensures).0 c.replace.ensures.trees)
+      (kept_touched c.args.file (flagged c.args.safe c.self.inside.clock) (flagged_keeps c.args.safe c.self.inside.clock) (items_in c.self.inside.forest.trees 0) _ c.self.inside.clock _ _ (λ x. refl) c.self.invariant.1),
+)
+
+pub returns-clause-stays : goal.returns-clause-stays
+returns-clause-stays c =
+    ap stays_of (replaced_tree c.self.inside.forest.trees c.replace.new.self.trees c.args.file c.in-Some.row c.flagged.result (flagged c.args.safe c.self.inside.clock) (flagged_keeps c.args.safe c.self.inside.clock) c.self.invariant.0 c.flagged.ensures (told_row c.args.file (items_in c.self.inside.forest.trees 0) c.row_of.result c.in-Some.row c.in-Some.is c.row_of.ensures).0 c.replace.ensures.trees)
+    ∙ flagged_stays c.args.file c.args.safe c.self.inside.clock (items_in c.self.inside.forest.trees 0)
+    ∙ ap (λ (v : Arrived). with_flag c.args.file c.args.safe v.stays) c.self.view_is
