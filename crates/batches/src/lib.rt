@@ -1,0 +1,8 @@
+//! What a Claim takes of the queue of its mount, found in the archive's parts.
+#![tactic(auto)]
+
+mod taken;
+mod written;
+
+pub use taken::{Taken, taken_jobs};
+pub use written::written_batch;
