@@ -1,0 +1,19 @@
+use Rattle.std.proofs.Common.{rules, ap, ◌∙◌, ◌≡◌, sym, subst, Some, None}
+use Rattle.std.specs.Prelude.{Option, option_map}
+use Rattle.cta_model.specs.History.{has_number}
+use Rattle.cta_model.specs.Repacks.{Repack}
+use Rattle.part_values.specs.Repacks.{reading_copies}
+use Rattle.repack_book.specs.Kept.{kept_in}
+use Rattle.repack_book.specs.Walks.{IsFirstFrom}
+use Rattle.repack_book.proofs.Books.{repack_is, repack_of, nothing_read}
+use Rattle.repack_book.proofs.book.RepackBook.reading.Goals as goal
+
+pub returns-in-Some : goal.returns-in-Some
+returns-in-Some c =
+    let here : kept_in c.args.self.now c.args.id ≡ Some c.in-Some.row.now = search rules in
+    subst (λ (o : Option Repack). IsFirstFrom (λ k. has_number k (reading_copies c.args.file o)) c.args.from c.reading.result) (sym (repack_is c.args.self.now c.args.id ∙ ap (option_map repack_of) here)) c.reading.ensures
+
+pub returns-in-None : goal.returns-in-None
+returns-in-None c =
+    let here : kept_in c.args.self.now c.args.id ≡ None = search rules in
+    subst (λ (o : Option Repack). IsFirstFrom (λ k. has_number k (reading_copies c.args.file o)) c.args.from None) (sym (repack_is c.args.self.now c.args.id ∙ ap (option_map repack_of) here)) (nothing_read c.args.file c.args.from)

@@ -1,0 +1,7 @@
+pub mod Kept
+pub mod Walks
+pub mod Reports
+pub mod States
+pub mod Order
+pub mod Live
+pub mod Laws

@@ -1,0 +1,5 @@
+pub mod Paths
+pub mod Turns
+pub mod Places
+pub mod Requests
+pub mod Told

@@ -1,0 +1,4 @@
+pub mod Requested
+pub mod Progresses
+pub mod Files
+pub mod Reports

@@ -1,0 +1,12 @@
+//! The book of stage requests: the files of each with their states, and which of them pin a file.
+#![tactic(auto)]
+
+mod book;
+mod progress;
+mod report;
+mod row;
+
+pub use book::StageBook;
+
+#[cfg(test)]
+mod tests;
