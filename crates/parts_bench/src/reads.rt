@@ -1,0 +1,162 @@
+// The queues of recalls.
+ghost use Rattle.std.specs.Prelude.{◌≡◌, ◌<◌, ◌+◌, ◌^◌, length, IfSome};
+ghost use Rattle.part_values.specs.Queues.{lines_in};
+ghost use Rattle.job_queues.specs.Waiting.{bytes_of};
+
+use crate::report::{Report, tell};
+use crate::site::valid_site;
+use cta_model::Job;
+use retrieve_queue::RetrieveQueue;
+use std::io;
+use std::marker::Model;
+use std::time::Instant;
+
+const CALLS: [&str; 6] = [
+    "retrieve_queue.reserve+take+sums+add",
+    "retrieve_queue.sums",
+    "retrieve_queue.front",
+    "retrieve_queue.after",
+    "retrieve_queue.take_of",
+    "retrieve_queue.take(absent)",
+];
+
+// The queues of at least two keys.
+#[derive(Drop)]
+struct Recalls {
+    queue: RetrieveQueue,
+}
+
+impl Model for Recalls {
+    ghost use Rattle.std.specs.Prelude.{ℕ, ◌<◌, length};
+
+    ghost Value = { ℕ };
+
+    ghost view = { λ w. length w.queue.value };
+
+    ghost invariant = { λ w. 1 < length w.queue.value };
+}
+
+// The job of the first copy of a file, born with its number.
+fn job_of(file: u32) -> Job {
+    Job {
+        birth: file,
+        file,
+        copy: 1,
+    }
+}
+
+// The bytes that wait under a key.
+fn bytes_at(queue: &RetrieveQueue, key: u32) -> u64
+    requires { key < length queue.now.value }
+    ensures { result ≡ bytes_of (lines_in queue.now.value key) }
+{
+    match queue.sums(key) {
+        Some(sums) => sums.bytes,
+        None => 0,
+    }
+}
+
+// Adds a job that is taken out before, where the bytes are few.
+fn add(queue: &mut RetrieveQueue, key: u32, job: Job) -> bool
+    requires { key < length queue.old.value }
+    ensures { length queue.new.value ≡ length queue.old.value }
+{
+    if queue.reserve(1).is_err() {
+        return false;
+    }
+    let _ = queue.take(key, job);
+    if bytes_at(queue, key) > 1000000000000 {
+        return false;
+    }
+    queue.add(key, job, 100, 1, 1, 60);
+    true
+}
+
+impl Recalls {
+    fn reserve(&mut self, files: u32) -> bool {
+        self.queue.reserve(files).is_ok()
+    }
+
+    fn add(&mut self, file: u32) -> bool {
+        add(&mut self.queue, file % 2, job_of(file))
+    }
+
+    fn sums(&self, file: u32) -> bool {
+        self.queue.sums(file % 2).is_some()
+    }
+
+    fn front(&self, file: u32) -> bool {
+        self.queue.front(file % 2).is_some()
+    }
+
+    fn after(&self, file: u32) -> bool {
+        let _ = self.queue.after(file % 2, job_of(file));
+        true
+    }
+
+    fn take(&mut self, file: u32) -> bool {
+        let _ = self.queue.take(file % 2, job_of(file));
+        true
+    }
+
+    // Takes a job of a birth, of whichever tape.
+    fn take_of(&mut self, birth: u32) -> bool {
+        self.queue.take_of(birth).is_some()
+    }
+}
+
+// One call for one file.
+fn call(waits: &mut Recalls, file: u32, at: usize) -> bool {
+    match at {
+        0 => waits.add(file),
+        1 => waits.sums(file),
+        2 => waits.front(file),
+        3 => waits.after(file),
+        4 => {
+            let _ = waits.take_of(file);
+            true
+        }
+        _ => waits.take(file),
+    }
+}
+
+fn row(waits: &mut Recalls, files: u32, at: usize) -> u32 {
+    for file in 0..files {
+        if !call(waits, file, at) {
+            return file;
+        }
+    }
+    files
+}
+
+// The queues of the site of the bench.
+fn start(rt: &HostRuntime) -> Option<Recalls> {
+    let site = valid_site(rt.alloc())?;
+    if site.tapes().len() < 2 {
+        return None;
+    }
+    let queue = RetrieveQueue::new(rt.alloc(), &site).ok()?;
+    Some(Recalls { queue })
+}
+
+// Prints the lines of the queues.
+pub fn run(rt: &HostRuntime, report: Report) -> io::Result<()> {
+    let Some(mut waits) = start(rt) else {
+        return Ok(());
+    };
+    for at in 0..6 {
+        let start = Instant::now(rt)?;
+        let calls = row(&mut waits, report.files, at);
+        tell(rt, report, CALLS[at], start, calls)?;
+    }
+    Ok(())
+}
+
+// Fills the queues, with room for all at once.
+pub fn fill(rt: &HostRuntime, files: u32) -> Option<u32> {
+    let mut waits = start(rt)?;
+    if !waits.reserve(files) {
+        return None;
+    }
+    Some(row(&mut waits, files, 0))
+}

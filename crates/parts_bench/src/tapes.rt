@@ -1,0 +1,161 @@
+// The table of tapes.
+ghost use Rattle.std.specs.Prelude.{◌≡◌};
+
+use crate::report::{Report, tell};
+use crate::site::valid_site;
+use cta_model::{Fate, Item, Job, Sum256};
+use cta_site::TapeState;
+use std::io;
+use std::time::Instant;
+use tape_files::TapeFiles;
+
+const CALLS: [&str; 10] = [
+    "tape_files.reserve+flushed",
+    "tape_files.place",
+    "tape_files.place_at",
+    "tape_files.is_whole",
+    "tape_files.row",
+    "tape_files.live",
+    "tape_files.next_live",
+    "tape_files.claim+unclaim",
+    "tape_files.set_state",
+    "tape_files.drop_file",
+];
+
+// An item for the first copy of a file.
+fn item(file: u32) -> Item
+    ensures { result.job.copy ≡ 1 }
+{
+    Item {
+        job: Job {
+            birth: file,
+            file,
+            copy: 1,
+        },
+        fseq: 1,
+        sum: Sum256 {
+            len: 5,
+            digest: [0; 32],
+        },
+    }
+}
+
+fn flush(table: &mut TapeFiles, tape: u32, file: u32) -> bool {
+    if table.reserve(1).is_err() {
+        return false;
+    }
+    if tape as usize >= table.tapes() {
+        return false;
+    }
+    if table.row(tape).next > 1000000 {
+        return false;
+    }
+    table.flushed(tape, item(file), Fate::Done);
+    true
+}
+
+fn flush_all(table: &mut TapeFiles, files: u32) -> u32 {
+    for file in 0..files {
+        if !flush(table, file % 2, file) {
+            return file;
+        }
+    }
+    files
+}
+
+// One reader for one file.
+fn reads(table: &TapeFiles, file: u32, at: usize) -> bool {
+    match at {
+        1 => table.place(file, 1).is_some(),
+        2 => table.place_at(file, 0).is_some(),
+        3 => table.is_whole(file, 1),
+        4 => table.row(file % 2).next > 0,
+        5 => table.live(file % 2) > 0,
+        _ => table.next_live(file % 2, file / 2).is_some(),
+    }
+}
+
+fn read_all(table: &TapeFiles, files: u32, at: usize) -> u32 {
+    let mut calls = 0u32;
+    for file in 0..files {
+        if reads(table, file, at) {
+            calls = calls.wrapping_add(1);
+        }
+    }
+    calls
+}
+
+fn claim(table: &mut TapeFiles, tape: u32) -> bool {
+    if tape as usize >= table.tapes() {
+        return false;
+    }
+    if table.row(tape).used > 1000000 {
+        return false;
+    }
+    table.claim(tape, 9);
+    table.unclaim(tape, 9);
+    true
+}
+
+fn set(table: &mut TapeFiles, tape: u32) -> bool {
+    if tape as usize >= table.tapes() {
+        return false;
+    }
+    table.set_state(tape, TapeState::Active);
+    true
+}
+
+// One change for one file.
+fn change(table: &mut TapeFiles, file: u32, at: usize) -> bool {
+    match at {
+        7 => claim(table, file % 2),
+        8 => set(table, file % 2),
+        _ => {
+            table.drop_file(file);
+            true
+        }
+    }
+}
+
+fn change_all(table: &mut TapeFiles, files: u32, at: usize) -> u32 {
+    for file in 0..files {
+        if !change(table, file, at) {
+            return file;
+        }
+    }
+    files
+}
+
+fn row(table: &mut TapeFiles, files: u32, at: usize) -> u32 {
+    if at == 0 {
+        return flush_all(table, files);
+    }
+    if at < 7 {
+        return read_all(table, files, at);
+    }
+    change_all(table, files, at)
+}
+
+// Prints the lines of the table.
+pub fn run(rt: &HostRuntime, report: Report) -> io::Result<()> {
+    let Some(site) = valid_site(rt.alloc()) else {
+        return Ok(());
+    };
+    let Ok(mut table) = TapeFiles::new(rt.alloc(), &site) else {
+        return Ok(());
+    };
+    for at in 0..10 {
+        let start = Instant::now(rt)?;
+        let calls = row(&mut table, report.files, at);
+        tell(rt, report, CALLS[at], start, calls)?;
+    }
+    Ok(())
+}
+
+// Fills the table, with room for all at once.
+pub fn fill(rt: &HostRuntime, files: u32) -> Option<u32> {
+    let site = valid_site(rt.alloc())?;
+    let mut table = TapeFiles::new(rt.alloc(), &site).ok()?;
+    table.reserve(files).ok()?;
+    Some(flush_all(&mut table, files))
+}
