@@ -1,0 +1,86 @@
+-- The laws of kept parts.
+use Rattle.std.proofs.Common.{◌≡◌, ◌∙◌, ℕ, ◌∷◌, refl, sym, ap, subst}
+use Rattle.std.specs.Prelude.{Option, option_map}
+use Rattle.cta_site.specs.declared.site.Site.{Site}
+use Rattle.cta_model.specs.declared.asks.Direction.{Direction}
+use Rattle.cta_model.specs.declared.entries.Entry.{Entry}
+use Rattle.cta_model.specs.History.{History}
+use Rattle.cta_model.specs.Legal.{IsLegal}
+use Rattle.cta_model.specs.Repacks.{repack_of}
+use Rattle.job_steps.specs.Parts.{JobPartsStand}
+use Rattle.mount_steps.specs.Mounts.{AreDown, AreOpenMounts}
+use Rattle.part_values.specs.Held.{ArePinsHeld}
+use Rattle.space_steps.specs.Held.{IsHeld}
+use Rattle.space_steps.specs.Tapes.{IsTable}
+use Rattle.entry_steps.specs.AllParts.{AllParts, jobs_in}
+use Rattle.entry_steps.specs.Stands.{Stands}
+use Rattle.entry_steps.proofs.Moves.{calls_move_all_parts}
+use Rattle.hand_steps.proofs.ContentLaw.{contents_move}
+use Rattle.disk_buffer.specs.Stays.{content_in}
+use Rattle.repack_book.specs.Kept.{names_in, repacks_of}
+use Rattle.kept_parts.specs.Kept.{AreOfSite, ArePartsKept, names_of_repack, values_of}
+use Rattle.kept_parts.specs.Same.{TellSameParts}
+use Rattle.kept_parts.specs.Laws.{KeptPartsMove, SamePartsAreKept}
+use Rattle.kept_parts.specs.declared.parts.KeptParts.{KeptParts}
+use Rattle.kept_parts.proofs.Names.{names_move}
+
+pub kept_parts_move : KeptPartsMove
+kept_parts_move site h e p p' legal next kept called =
+    let more : IsLegal site (e ∷ h) = (legal, next) in
+    record {
+      stand = calls_move_all_parts site h e (values_of p) (values_of p') more kept.stand called.parts;
+      contents = λ f. called.contents f ∙ contents_move site h e (content_in p.buffer.contents) more kept.contents f;
+      fit = called.fit;
+      named = names_move site h e e.ask e.answer p.repacks p'.repacks refl refl more called.named kept.named;
+    }
+
+-- ---- parts that tell the same
+
+same_jobs : (site : Site) (h : History) (p p' : KeptParts) → TellSameParts p' p → JobPartsStand site h (jobs_in (values_of p)) → JobPartsStand site h (jobs_in (values_of p'))
+same_jobs site h p p' same stand = record {
+  book = record {
+    recall = λ f. same.book.recall f ∙ stand.book.recall f;
+    archive = λ f c. same.book.archive f c ∙ stand.book.archive f c;
+    claimer = λ j. same.book.claimer j ∙ stand.book.claimer j;
+    charges = λ j. same.book.charges j ∙ stand.book.charges j;
+    last_birth = λ f c. same.book.last_birth f c ∙ stand.book.last_birth f c;
+    named = λ j. same.book.named j ∙ stand.book.named j;
+  };
+  pools = rw same.pools stand.pools;
+  tapes = rw same.recalls stand.tapes;
+  counts = rw same.counts stand.counts;
+}
+
+same_table : (site : Site) (h : History) (p p' : KeptParts) → TellSameParts p' p → IsTable site h p.tapes.value → IsTable site h p'.tapes.value
+same_table site h p p' same is = record {
+  rows = λ t low. same.table.rows t ∙ is.rows t low;
+  places = λ f c. same.table.places f c ∙ is.places f c;
+  distinct = same.table.distinct;
+}
+
+pub same_parts_are_kept : SamePartsAreKept
+same_parts_are_kept site h p p' same kept = record {
+  stand = record {
+    space = record {
+      names = rw same.names kept.stand.space.names;
+      table = same_table site h p p' same kept.stand.space.table;
+      held = rw same.held kept.stand.space.held;
+      pins = rw same.held kept.stand.space.pins;
+      requests = rw same.requests kept.stand.space.requests;
+      repacks = rw same.repacks kept.stand.space.repacks;
+    };
+    jobs = same_jobs site h p p' same kept.stand.jobs;
+    mounts = rw same.mounts kept.stand.mounts;
+    downs = rw same.mounts kept.stand.downs;
+    failed = same.failed ∙ kept.stand.failed;
+  };
+  contents = λ f. same.contents f ∙ kept.contents f;
+  fit = record {
+    tapes = same.tapes ∙ kept.fit.tapes;
+    pools = rw same.pools kept.fit.pools;
+    recalls = rw same.recalls kept.fit.recalls;
+    vos = rw same.counts kept.fit.vos;
+    drives = rw same.mounts kept.fit.drives;
+  };
+  named = rw same.repacks kept.named;
+}
