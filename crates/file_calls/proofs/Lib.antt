@@ -1,0 +1,17 @@
+mod Births
+mod Lines
+mod Ends
+mod Leaves
+mod Requests
+mod Items
+mod Writers
+mod Puts
+mod PutCalls
+mod Stands
+mod Waits
+mod Deletes
+mod DeleteCalls
+mod Told
+mod PutBody
+mod DeleteBody
+mod PutDone
