@@ -1,0 +1,27 @@
+-- The state at the start.
+use Rattle.std.proofs.Common.{◌≡◌, ◌∙◌, ℕ, zero, suc, ◌<◌, [], ◌∷◌, List, refl, sym, ap, subst, arith, length}
+use Rattle.std.specs.Prelude.{Option, Some, None, IfSome, false, map, slice_get}
+use Rattle.std.proofs.lemmas.List.{length-map}
+use Rattle.blob.specs.Records.{TapeRecords}
+use Rattle.cta_site.specs.declared.site.Site.{Site}
+use Rattle.cta_model.specs.Media.{IsTrueMedium}
+use Rattle.hand_steps.specs.Shelf.{IsPlaceOf}
+use Rattle.hand_steps.proofs.ShelfLaw.{shelf_starts_full}
+use Rattle.media_shelf.specs.Places.{medium_at}
+use Rattle.kept_parts.specs.declared.parts.KeptParts.{KeptParts}
+use Rattle.kept_parts.specs.Kept.{ArePartsKept}
+use Rattle.kept_state.specs.Kept.{AreFirstMedia, IsState}
+
+-- each place of a full shelf has the medium of that place
+first_place : {M : Type 0} (told : M → Option TapeRecords) (media : List M) (v t : ℕ) → v < length media → ((m : M) → slice_get media v ≡ Some m → IfSome (told m) (IsTrueMedium [] t)) → IsPlaceOf [] t false (medium_at (map (λ m. Some (told m)) media) v)
+first_place told [] v t low each = absurd (omega (arith, low))
+first_place told (m ∷ media) zero t low each = each m refl
+first_place told (m ∷ media) (suc v) t low each = first_place told media v t (omega (arith, low)) each
+
+pub state_begins : {M : Type 0} (told : M → Option TapeRecords) (site : Site) (p : KeptParts) (media : List M) (shelf : List (Option (Option TapeRecords))) → AreFirstMedia told site media → ArePartsKept site [] p → shelf ≡ map (λ m. Some (told m)) media → IsState site [] p shelf
+state_begins told site p media shelf first kept is = record {
+  legal = tt;
+  parts = kept;
+  shelf = shelf_starts_full site (medium_at shelf) (λ v low. subst (λ (s : List (Option (Option TapeRecords))). IsPlaceOf [] v false (medium_at s v)) (sym is) (first_place told media v v (subst (λ (n : ℕ). v < n) (sym first.count) low) (first.each v)));
+  places = ap length is ∙ length-map media (λ m. Some (told m)) ∙ first.count;
+}

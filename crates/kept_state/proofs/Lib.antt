@@ -1,0 +1,5 @@
+pub mod Now
+pub mod Reached
+pub mod Begins
+pub mod Moves
+pub mod Mounted

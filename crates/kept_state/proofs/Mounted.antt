@@ -1,0 +1,120 @@
+-- The shelf behind a Next and behind an End.
+use Rattle.std.proofs.Common.{◌≡◌, ◌∙◌, ℕ, ◌+◌, ◌≤◌, ◌<◌, inl, inr, List, [], ◌∷◌, Bool, true, false, refl, sym, ap, subst, length}
+use Rattle.std.specs.Prelude.{Option, Some, None, IfSome, is_some, option_map, if◌then◌else◌, ◌==◌}
+use Rattle.blob.specs.Records.{TapeRecords}
+use Rattle.cta_site.specs.declared.site.Site.{Site}
+use Rattle.cta_model.specs.declared.asks.Ask.{Ask}
+use Rattle.cta_model.specs.declared.asks.Ask.TheVariants as ask
+use Rattle.cta_model.specs.declared.asks.Direction.{Direction}
+use Rattle.cta_model.specs.declared.asks.Fault.{Fault}
+use Rattle.cta_model.specs.declared.answers.Answer.{Answer}
+use Rattle.cta_model.specs.declared.answers.Answer.TheVariants as answer
+use Rattle.cta_model.specs.declared.entries.Entry.{Entry}
+use Rattle.cta_model.specs.declared.states.Candidate.{Candidate}
+use Rattle.cta_model.specs.declared.states.Mount.{Mount}
+use Rattle.cta_model.specs.Answers.{answer_of, is_accepted}
+use Rattle.cta_model.specs.Choice.{mount_choice}
+use Rattle.cta_model.specs.History.{History, moment_of}
+use Rattle.cta_model.specs.Legal.{IsFit, IsLegal, IsNext, greatest_moment, new_entry}
+use Rattle.cta_model.specs.Media.{IsTrueMedium, IsTrueWhereTold}
+use Rattle.cta_model.specs.Mounts.{is_mounted, mount_in, mount_of, tape_by, tape_of_mount}
+use Rattle.cta_model.proofs.Appends.{is_next}
+use Rattle.cta_laws.proofs.Tests.{bool_cases}
+use Rattle.part_values.specs.declared.mounts.OpenMount.{OpenMount}
+use Rattle.part_values.specs.Mounts.{has_mount, row_of}
+use Rattle.hand_steps.specs.Shelf.{IsPlaceOf, IsShelf, IsTaken, with_tape, without_tape}
+use Rattle.hand_steps.proofs.NextTape.{next_low}
+use Rattle.hand_steps.proofs.ShelfLaw.{end_brings_medium, next_takes_medium}
+use Rattle.media_shelf.specs.Places.{medium_at}
+use Rattle.mount_calls.proofs.EndedMounts.{end_is_open}
+use Rattle.mount_calls.proofs.OpenedMounts.{mount_found, next_answered, row_there}
+use Rattle.kept_parts.specs.declared.parts.KeptParts.{KeptParts}
+use Rattle.kept_parts.specs.Kept.{ArePartsKept}
+use Rattle.kept_state.specs.Kept.{IsState}
+
+-- ---- a Next
+
+-- the state behind a Next, whose medium has left the shelf
+pub record IsOpened (site : Site) (h : History) (e : Entry) (c : Candidate) (p' : KeptParts) (media media' : List (Option (Option TapeRecords))) : Type 0 where
+  pub state : IsState site (e ∷ h) p' media'
+  pub there : (x : Option TapeRecords) × (medium_at media c.tape ≡ Some x) × IfSome x (IsTrueMedium (e ∷ h) c.tape)
+
+pub state_opens : (site : Site) (h : History) (t d : ℕ) (c : Candidate) (a : Answer) (p p' : KeptParts) (media media' : List (Option (Option TapeRecords))) → IsState site h p media → t ≤ greatest_moment → d < length site.drives.items
+    → is_accepted (answer_of site h t (ask.Next d)) ≡ true → mount_choice site h (moment_of h t) d ≡ Some c → a ≡ answer_of site h t (ask.Next d) → ArePartsKept site (new_entry h t (ask.Next d) a ∷ h) p'
+    → ((v : ℕ) → medium_at media' v ≡ (if v == c.tape then None else medium_at media v)) → length media' ≡ length media → IsOpened site h (new_entry h t (ask.Next d) a) c p' media media'
+state_opens site h t d c a p p' media media' is low fit accepted choice answered kept places many =
+    let next : IsNext site h (new_entry h t (ask.Next d) a) = is_next site h t (ask.Next d) a is.legal low fit answered (ap is_accepted answered ∙ accepted) in
+    let mounted : a ≡ answer.Mounted (length h + 1) c.direction c.tape = answered ∙ sym (next_answered site h t d c accepted choice) in
+    let taken : IsTaken site h (new_entry h t (ask.Next d) a) c.tape (medium_at media) = next_takes_medium site h (new_entry h t (ask.Next d) a) d (length h + 1) c.tape c.direction (medium_at media) (is.legal, next) refl mounted is.shelf in
+    record {
+      state = record {
+        legal = (is.legal, next);
+        parts = kept;
+        shelf = λ v here. subst (IsPlaceOf (new_entry h t (ask.Next d) a ∷ h) v (is_mounted (new_entry h t (ask.Next d) a ∷ h) v)) (sym (places v)) (taken.rest v here);
+        places = many ∙ is.places;
+      };
+      there = taken.there;
+    }
+
+-- a medium is on the shelf where one must be
+pub none_taken : {M : Type 0} (told : M → Option TapeRecords) (place : Option (Option TapeRecords)) (x : Option TapeRecords) (r : Option M) → option_map told r ≡ place → place ≡ Some x → r ≡ None → ⊥
+none_taken told place x None is there none = absurd (cc)
+none_taken told place x (Some m) is there none = absurd (cc)
+
+-- what is taken is true
+pub taken_true : {M : Type 0} (told : M → Option TapeRecords) (h : History) (v : ℕ) (place : Option (Option TapeRecords)) (x : Option TapeRecords) (r : Option M) (m : M) → r ≡ Some m → option_map told r ≡ place → place ≡ Some x → IfSome x (IsTrueMedium h v) → IsTrueWhereTold told h v m
+taken_true told h v place x r m found is there true_then =
+    let same : Some x ≡ Some (told m) = sym there ∙ sym is ∙ ap (option_map told) found in
+    subst (λ (o : Option TapeRecords). IfSome o (IsTrueMedium h v)) (inner x (told m) same) true_then
+  where
+    inner : (a b : Option TapeRecords) → Some a ≡ Some b → a ≡ b
+    inner a b e = cc
+
+-- ---- the tape of a mount
+
+same_mount : (x y : Mount) → Some x ≡ Some y → x ≡ y
+same_mount x y e = cc
+
+tape_made : (site : Site) (h : History) (e : Entry) (k : Ask) (a : Answer) (x : Mount) → IsNext site h e → e.ask ≡ k → e.answer ≡ a → mount_in k a ≡ Some x → x.tape < length site.tapes.items
+tape_made site h e (ask.Next d) (answer.Mounted m way v) x next ek ea is = subst (λ (y : Mount). y.tape < length site.tapes.items) (same_mount (record { drive = d; direction = way; tape = v }) x is) (next_low site h e d m way v next ek ea)
+tape_made site h e _ a x next ek ea is = absurd (cc)
+
+-- the tape of a mount is one of the site
+tape_of_site : (site : Site) (h : History) (m : ℕ) (x : Mount) → IsLegal site h → mount_of h m ≡ Some x → x.tape < length site.tapes.items
+tape_of_site site [] m x legal is = absurd (cc)
+tape_of_site site (e ∷ h) m x legal is =
+    elim (bool_cases (m == length h + 1)) [
+      | inl newest ↦ tape_made site h e e.ask e.answer x legal.1 refl refl (rw newest at is)
+      | inr older ↦ tape_of_site site h m x legal.0 (rw older at is)
+    ]
+
+-- ---- an End
+
+-- the row of the mount of an accepted End is there, and has its tape
+pub row_missing : (site : Site) (h : History) (t m : ℕ) (fault : Option Fault) (p : KeptParts) (some : Bool) → ArePartsKept site h p → is_accepted (answer_of site h t (ask.End m fault)) ≡ true → some ≡ has_mount m p.mounts.value.rows → some ≡ true
+row_missing site h t m fault p some kept accepted is = is ∙ row_there site h p.mounts.value.rows m kept.stand.mounts (end_is_open site h t m fault accepted)
+
+row_mount : (site : Site) (h : History) (t m : ℕ) (fault : Option Fault) (p : KeptParts) (r : OpenMount) → ArePartsKept site h p → is_accepted (answer_of site h t (ask.End m fault)) ≡ true → row_of m p.mounts.value.rows ≡ Some r
+    → mount_of h m ≡ Some (record { drive = r.drive; direction = r.direction; tape = r.tape })
+row_mount site h t m fault p r kept accepted found =
+    mount_found site h p.mounts.value.rows m r kept.stand.mounts (row_there site h p.mounts.value.rows m kept.stand.mounts (end_is_open site h t m fault accepted)) found
+
+pub row_tape_low : (site : Site) (h : History) (t m : ℕ) (fault : Option Fault) (p : KeptParts) (media : List (Option (Option TapeRecords))) (r : OpenMount) → IsState site h p media → is_accepted (answer_of site h t (ask.End m fault)) ≡ true
+    → row_of m p.mounts.value.rows ≡ Some r → r.tape < length media
+row_tape_low site h t m fault p media r is accepted found =
+    subst (λ (n : ℕ). r.tape < n) (sym is.places) (tape_of_site site h m _ is.legal (row_mount site h t m fault p r is.parts accepted found))
+
+-- the state behind an End, whose medium is back on the shelf
+pub state_ends : (site : Site) (h h' : History) (t m : ℕ) (fault : Option Fault) (a : Answer) (p p' : KeptParts) (media media' : List (Option (Option TapeRecords))) (r : OpenMount) (x : Option TapeRecords) → IsState site h p media → t ≤ greatest_moment → IsFit site h (ask.End m fault)
+    → is_accepted (answer_of site h t (ask.End m fault)) ≡ true → a ≡ answer_of site h t (ask.End m fault) → h' ≡ new_entry h t (ask.End m fault) a ∷ h → ArePartsKept site h' p' → row_of m p.mounts.value.rows ≡ Some r
+    → IfSome x (IsTrueMedium h (tape_of_mount h m)) → ((v : ℕ) → medium_at media' v ≡ (if v == r.tape then Some x else medium_at media v)) → length media' ≡ length media → IsState site h' p' media'
+state_ends site h h' t m fault a p p' media media' r x is low fit accepted answered entry kept found true_then places many =
+    let next : IsNext site h (new_entry h t (ask.End m fault) a) = is_next site h t (ask.End m fault) a is.legal low fit answered (ap is_accepted answered ∙ accepted) in
+    let tape : r.tape ≡ tape_of_mount h m = sym (ap tape_by (row_mount site h t m fault p r is.parts accepted found)) in
+    let back : IsShelf site (new_entry h t (ask.End m fault) a ∷ h) (with_tape (tape_of_mount h m) x (medium_at media)) = end_brings_medium site h (new_entry h t (ask.End m fault) a) m fault x (medium_at media) (is.legal, next) refl true_then is.shelf in
+    subst (λ (g : History). IsState site g p' media') (sym entry) (record {
+      legal = (is.legal, next);
+      parts = subst (λ (g : History). ArePartsKept site g p') entry kept;
+      shelf = λ v here. subst (IsPlaceOf (new_entry h t (ask.End m fault) a ∷ h) v (is_mounted (new_entry h t (ask.End m fault) a ∷ h) v)) (sym (places v ∙ ap (λ (n : ℕ). if v == n then Some x else medium_at media v) tape)) (back v here);
+      places = many ∙ is.places;
+    })

@@ -1,0 +1,11 @@
+//! What an archive keeps: its site, its history, the parts that stand for it, and the media on the shelf. It is told what the archive's
+//! definitions say of the history, and carries out asks that are accepted.
+#![tactic(auto)]
+
+mod calls;
+mod files;
+mod mounts;
+mod sessions;
+mod state;
+
+pub use state::KeptState;

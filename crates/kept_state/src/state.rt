@@ -1,0 +1,77 @@
+// The state.
+ghost use Rattle.std.specs.Prelude.{◌≡◌, [], IfOk};
+ghost use Rattle.cta_model.specs.History.{moment_of, weight_of};
+ghost use Rattle.cta_model.specs.Legal.{IsLegal};
+ghost use Rattle.kept_state.specs.Kept.{AreFirstMedia};
+
+use blob::Told;
+use cta_site::{NoMemory, ValidSite};
+use kept_history::KeptHistory;
+use kept_parts::KeptParts;
+use keyed_site::KeyedSite;
+use media_shelf::MediaShelf;
+use std::alloc::Global;
+use std::hash::RandomState;
+use std::marker::Model;
+
+/// The state of an archive. Contracts see its site and its history, newest entry first. The history is legal; the parts stand for it, the
+/// buffer has a content of each resident file and of no other, and each tape that is not mounted has a medium on the shelf, which is true
+/// where it tells its records. This project's own.
+#[derive(Drop)]
+pub struct KeptState<M: Told + Drop> {
+    pub(crate) alloc: Global,
+    pub(crate) site: KeyedSite,
+    pub(crate) history: KeptHistory,
+    pub(crate) parts: KeptParts,
+    pub(crate) shelf: MediaShelf<M>,
+}
+
+impl<M: Told + Drop> Model for KeptState<M> {
+    ghost use Rattle.cta_model.specs.Kept.{Kept};
+    ghost use Rattle.kept_state.specs.Kept.{IsState};
+
+    ghost Value = { Kept };
+
+    ghost view = { λ s. record { site = s.site; history = s.history.value } };
+
+    ghost invariant = { λ s. IsState s.site s.history.value s.parts s.shelf };
+}
+
+impl<M: Told + Drop> KeptState<M> {
+    /// The state of an archive with no history, with a medium for each tape of the site. Paths are hashed with these keys. After
+    /// NoMemory the site and the media are dropped. Its cost is the size of the site, and that of `KeyedSite::new`.
+    pub fn new(
+        alloc: Global,
+        site: ValidSite,
+        media: Vec<M>,
+        keys: RandomState,
+    ) -> Result<KeptState<M>, NoMemory>
+        requires { AreFirstMedia M.told site media.items }
+        ensures { IfOk result (λ state. state ≡ record { site = site; history = [] }) }
+    {
+        let shelf = MediaShelf::new(alloc, media)?;
+        let parts = KeptParts::new(alloc, &site, keys)?;
+        let site = KeyedSite::new(alloc, site)?;
+        Ok(KeptState {
+            alloc,
+            site,
+            history: KeptHistory::new(alloc),
+            parts,
+            shelf,
+        })
+    }
+
+    /// The site, in constant time.
+    pub fn site(&self) -> &ValidSite
+        ensures { result.now ≡ self.now.site }
+    {
+        self.site.site()
+    }
+
+    /// That the history is legal for the site: a law, which does nothing when it runs.
+    pub fn keeps_history(&self)
+        ensures { IsLegal self.now.site self.now.history }
+    {
+        let _history = &self.history;
+    }
+}
