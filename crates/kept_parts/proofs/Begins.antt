@@ -1,19 +1,15 @@
 -- Parts at the start.
-use Rattle.std.proofs.Common.{◌≡◌, ◌∙◌, ℕ, List, [], refl, sym, ap, subst, length}
-use Rattle.std.specs.Prelude.{None, map, slice_get}
+use Rattle.std.proofs.Common.{◌≡◌, ◌∙◌, ℕ, List, [], sym, ap, subst, length}
+use Rattle.std.specs.Prelude.{map, slice_get}
 use Rattle.std.proofs.lemmas.List.{length-map}
 use Rattle.cta_site.specs.declared.site.Site.{Site}
 use Rattle.cta_model.specs.declared.asks.Direction.{Direction}
-use Rattle.cta_model.specs.declared.asks.Job.{Job}
-use Rattle.part_values.specs.declared.mounts.OpenMount.{OpenMount}
 use Rattle.part_values.specs.declared.space.Placed.{Placed}
 use Rattle.part_values.specs.declared.space.TapeRow.{TapeRow}
 use Rattle.part_values.specs.Counts.{count_in}
-use Rattle.part_values.specs.Held.{ArePinsHeld, Held}
+use Rattle.part_values.specs.Held.{ArePinsHeld}
 use Rattle.part_values.specs.JobRows.{JobRows, book_in, no_rows}
-use Rattle.part_values.specs.Names.{Names}
-use Rattle.part_values.specs.Requests.{Requests}
-use Rattle.part_values.specs.Tapes.{AreDistinct, Table, place_among, row_or}
+use Rattle.part_values.specs.Tapes.{AreDistinct, place_among, row_or}
 use Rattle.job_queues.specs.Waiting.{AreStarted}
 use Rattle.tape_files.specs.Kept.{fresh_row}
 use Rattle.disk_buffer.specs.Stays.{content_in}
@@ -28,10 +24,9 @@ use Rattle.space_steps.specs.Held.{IsHeld}
 use Rattle.space_steps.specs.Names.{AreNames}
 use Rattle.space_steps.specs.Tapes.{IsTable}
 use Rattle.book_steps.specs.Books.{AreRepacks, AreRequests}
-use Rattle.space_parts.specs.Parts.{AreParts, first_parts}
+use Rattle.space_parts.specs.Parts.{first_parts}
 use Rattle.space_parts.proofs.Together.{first_parts_stand}
-use Rattle.entry_steps.specs.AllParts.{empty_parts, jobs_in}
-use Rattle.entry_steps.specs.Stands.{Stands}
+use Rattle.entry_steps.specs.AllParts.{jobs_in}
 use Rattle.entry_steps.proofs.Moves.{empty_parts_stand}
 use Rattle.hand_steps.proofs.ContentLaw.{contents_start_empty}
 use Rattle.kept_parts.specs.Kept.{ArePartsKept, values_of}

@@ -1,24 +1,15 @@
 -- The laws of kept parts.
-use Rattle.std.proofs.Common.{◌≡◌, ◌∙◌, ℕ, ◌∷◌, refl, sym, ap, subst}
-use Rattle.std.specs.Prelude.{Option, option_map}
+use Rattle.std.proofs.Common.{◌∙◌, ◌∷◌, refl}
 use Rattle.cta_site.specs.declared.site.Site.{Site}
-use Rattle.cta_model.specs.declared.asks.Direction.{Direction}
-use Rattle.cta_model.specs.declared.entries.Entry.{Entry}
 use Rattle.cta_model.specs.History.{History}
 use Rattle.cta_model.specs.Legal.{IsLegal}
-use Rattle.cta_model.specs.Repacks.{repack_of}
 use Rattle.job_steps.specs.Parts.{JobPartsStand}
-use Rattle.mount_steps.specs.Mounts.{AreDown, AreOpenMounts}
-use Rattle.part_values.specs.Held.{ArePinsHeld}
-use Rattle.space_steps.specs.Held.{IsHeld}
 use Rattle.space_steps.specs.Tapes.{IsTable}
-use Rattle.entry_steps.specs.AllParts.{AllParts, jobs_in}
-use Rattle.entry_steps.specs.Stands.{Stands}
+use Rattle.entry_steps.specs.AllParts.{jobs_in}
 use Rattle.entry_steps.proofs.Moves.{calls_move_all_parts}
 use Rattle.hand_steps.proofs.ContentLaw.{contents_move}
 use Rattle.disk_buffer.specs.Stays.{content_in}
-use Rattle.repack_book.specs.Kept.{names_in, repacks_of}
-use Rattle.kept_parts.specs.Kept.{AreOfSite, ArePartsKept, names_of_repack, values_of}
+use Rattle.kept_parts.specs.Kept.{values_of}
 use Rattle.kept_parts.specs.Same.{TellSameParts}
 use Rattle.kept_parts.specs.Laws.{KeptPartsMove, SamePartsAreKept}
 use Rattle.kept_parts.specs.declared.parts.KeptParts.{KeptParts}

@@ -1,10 +1,10 @@
 -- The names that the book of repacks has, behind one more entry.
-use Rattle.std.proofs.Common.{◌≡◌, ◌∙◌, ℕ, ◌+◌, ◌≤◌, ◌<◌, inl, inr, List, [], ◌∷◌, Bool, true, false, refl, sym, ap, subst, arith, length}
+use Rattle.std.proofs.Common.{◌≡◌, ◌∙◌, ℕ, ◌+◌, ◌≤◌, ◌<◌, inl, inr, List, [], ◌∷◌, Bool, refl, sym, ap, subst, arith, length}
 use Rattle.std.specs.Prelude.{Option, Some, None, is_some, option_map, if◌then◌else◌, ◌==◌, map}
 use Rattle.std.proofs.lemmas.Bool.{eqb-true}
 use Rattle.cta_site.specs.declared.site.Site.{Site}
 use Rattle.cta_site.specs.Lookups.{vid_of}
-use Rattle.cta_site.specs.Listed.{rows, Listed}
+use Rattle.cta_site.specs.Listed.{Listed}
 use Rattle.cta_model.specs.declared.asks.Ask.{Ask}
 use Rattle.cta_model.specs.declared.asks.Ask.TheVariants as ask
 use Rattle.cta_model.specs.declared.asks.Job.{Job}
@@ -13,9 +13,8 @@ use Rattle.cta_model.specs.declared.answers.Answer.{Answer}
 use Rattle.cta_model.specs.declared.answers.Answer.TheVariants as answer
 use Rattle.cta_model.specs.declared.entries.Entry.{Entry}
 use Rattle.cta_model.specs.declared.states.RepackCopy.{RepackCopy}
-use Rattle.cta_model.specs.History.{History, entry_of, moment_of}
+use Rattle.cta_model.specs.History.{History, moment_of}
 use Rattle.cta_model.specs.Files.{entry_path, path_in, path_of}
-use Rattle.cta_model.specs.RepackItems.{repack_items}
 use Rattle.cta_model.specs.Repacks.{Repack, item_after, new_item, repack_after, repack_by, repack_of}
 use Rattle.cta_model.specs.Legal.{IsLegal}
 use Rattle.cta_laws.specs.Asks.{AnswerIs}
@@ -25,7 +24,7 @@ use Rattle.cta_laws.proofs.Paths.{no_entry}
 use Rattle.cta_laws.proofs.PlaceLaw.{path_older}
 use Rattle.cta_laws.proofs.RepackLaw.{ItemStands, items_stand, repack_low}
 use Rattle.cta_laws.proofs.Tests.{bool_cases}
-use Rattle.repack_book.specs.Kept.{Kept, NamesAgree, RepackNames, names_in}
+use Rattle.repack_book.specs.Kept.{Kept, NamesAgree, names_in}
 use Rattle.kept_parts.specs.Called.{RepackNamesCalled}
 use Rattle.kept_parts.specs.Kept.{names_of_repack}
 

@@ -1,5 +1,5 @@
 -- All parts of an archive, and when they are kept for a history.
-use Rattle.std.specs.Prelude.{ℕ, ◌≡◌, length, Option, option_map, map, List}
+use Rattle.std.specs.Prelude.{ℕ, ◌≡◌, length, option_map, map}
 use Rattle.cta_site.specs.declared.site.Site.{Site}
 use Rattle.cta_site.specs.Lookups.{vid_of}
 use Rattle.cta_model.specs.declared.states.RepackCopy.{RepackCopy}

@@ -1,6 +1,6 @@
 -- The state at the start.
 use Rattle.std.proofs.Common.{◌≡◌, ◌∙◌, ℕ, zero, suc, ◌<◌, [], ◌∷◌, List, refl, sym, ap, subst, arith, length}
-use Rattle.std.specs.Prelude.{Option, Some, None, IfSome, false, map, slice_get}
+use Rattle.std.specs.Prelude.{Option, Some, IfSome, false, map, slice_get}
 use Rattle.std.proofs.lemmas.List.{length-map}
 use Rattle.blob.specs.Records.{TapeRecords}
 use Rattle.cta_site.specs.declared.site.Site.{Site}

@@ -1,11 +1,10 @@
 -- The shelf behind a Next and behind an End.
-use Rattle.std.proofs.Common.{◌≡◌, ◌∙◌, ℕ, ◌+◌, ◌≤◌, ◌<◌, inl, inr, List, [], ◌∷◌, Bool, true, false, refl, sym, ap, subst, length}
-use Rattle.std.specs.Prelude.{Option, Some, None, IfSome, is_some, option_map, if◌then◌else◌, ◌==◌}
+use Rattle.std.proofs.Common.{◌≡◌, ◌∙◌, ℕ, ◌+◌, ◌≤◌, ◌<◌, inl, inr, List, [], ◌∷◌, Bool, true, refl, sym, ap, subst, length}
+use Rattle.std.specs.Prelude.{Option, Some, None, IfSome, option_map, if◌then◌else◌, ◌==◌}
 use Rattle.blob.specs.Records.{TapeRecords}
 use Rattle.cta_site.specs.declared.site.Site.{Site}
 use Rattle.cta_model.specs.declared.asks.Ask.{Ask}
 use Rattle.cta_model.specs.declared.asks.Ask.TheVariants as ask
-use Rattle.cta_model.specs.declared.asks.Direction.{Direction}
 use Rattle.cta_model.specs.declared.asks.Fault.{Fault}
 use Rattle.cta_model.specs.declared.answers.Answer.{Answer}
 use Rattle.cta_model.specs.declared.answers.Answer.TheVariants as answer
@@ -22,7 +21,7 @@ use Rattle.cta_model.proofs.Appends.{is_next}
 use Rattle.cta_laws.proofs.Tests.{bool_cases}
 use Rattle.part_values.specs.declared.mounts.OpenMount.{OpenMount}
 use Rattle.part_values.specs.Mounts.{has_mount, row_of}
-use Rattle.hand_steps.specs.Shelf.{IsPlaceOf, IsShelf, IsTaken, with_tape, without_tape}
+use Rattle.hand_steps.specs.Shelf.{IsPlaceOf, IsShelf, IsTaken, with_tape}
 use Rattle.hand_steps.proofs.NextTape.{next_low}
 use Rattle.hand_steps.proofs.ShelfLaw.{end_brings_medium, next_takes_medium}
 use Rattle.media_shelf.specs.Places.{medium_at}

@@ -9,7 +9,7 @@ use Rattle.cta_model.specs.History.{History}
 use Rattle.cta_model.specs.Answers.{answer_of, is_accepted}
 use Rattle.cta_model.specs.Bare.{bare_answer}
 use Rattle.cta_model.specs.Kept.{Kept, kept_after}
-use Rattle.cta_model.specs.Legal.{IsFit, IsLegal, IsMount, IsMountOf, IsNext, greatest_moment, new_entry}
+use Rattle.cta_model.specs.Legal.{IsFit, IsMount, IsMountOf, IsNext, greatest_moment, new_entry}
 use Rattle.cta_model.specs.declared.asks.Direction.TheVariants as direction
 use Rattle.cta_model.specs.declared.states.Mount.{Mount}
 use Rattle.cta_model.proofs.Appends.{is_next}

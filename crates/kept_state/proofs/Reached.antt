@@ -1,5 +1,5 @@
 -- A buffer that reached a moment tells what it told.
-use Rattle.std.proofs.Common.{◌≡◌, ◌∙◌, ℕ, ◌-◌, [], ◌∷◌, List, Bool, true, false, refl, sym, ap, subst, arith}
+use Rattle.std.proofs.Common.{◌≡◌, ◌∙◌, ℕ, ◌-◌, [], ◌∷◌, List, refl, sym, ap, arith}
 use Rattle.std.specs.Prelude.{Option, None, if◌then◌else◌}
 use Rattle.cta_site.specs.declared.site.Site.{Site}
 use Rattle.cta_model.specs.History.{History, has_number}
@@ -7,12 +7,11 @@ use Rattle.blob.specs.declared.sum.Sum256.{Sum256}
 use Rattle.blob.specs.Records.{TapeRecords}
 use Rattle.part_values.specs.declared.space.HeldPin.{HeldPin}
 use Rattle.part_values.specs.declared.space.Resident.{Resident}
-use Rattle.part_values.specs.Held.{ArePinsHeld, Held, HeldAgree, evict, evictable_in, evicted_for, free_in, is_held, numbers, pins_in, pins_without, prefix_of, without}
+use Rattle.part_values.specs.Held.{ArePinsHeld, Held, HeldAgree, evict, evictable_in, evicted_for, free_in, numbers, pins_in, pins_without, prefix_of, without}
 use Rattle.space_steps.specs.Held.{IsHeld}
 use Rattle.disk_buffer.specs.Stays.{content_in}
 use Rattle.disk_buffer.specs.Stored.{Stored}
 use Rattle.kept_parts.specs.declared.parts.KeptParts.{KeptParts}
-use Rattle.kept_parts.specs.Kept.{ArePartsKept}
 use Rattle.kept_state.specs.Kept.{IsState}
 
 nothing_left : (n : ℕ) → 0 - n ≡ 0

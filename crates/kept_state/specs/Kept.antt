@@ -1,5 +1,5 @@
 -- When an archive's state is kept.
-use Rattle.std.specs.Prelude.{ℕ, ◌≡◌, ◌<◌, length, [], List, Option, Some, slice_get}
+use Rattle.std.specs.Prelude.{ℕ, ◌≡◌, length, [], List, Option, Some, slice_get}
 use Rattle.blob.specs.Records.{TapeRecords}
 use Rattle.cta_site.specs.declared.site.Site.{Site}
 use Rattle.cta_model.specs.History.{History}

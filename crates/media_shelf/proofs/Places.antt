@@ -1,5 +1,5 @@
 -- Places of which one is set.
-use Rattle.std.proofs.Common.{◌≡◌, ◌∙◌, ℕ, ◌<◌, inl, inr, List, Bool, true, false, refl, sym, ap, subst, length}
+use Rattle.std.proofs.Common.{◌≡◌, ◌∙◌, ℕ, ◌<◌, inl, inr, List, sym, ap, subst, length}
 use Rattle.std.specs.Prelude.{Option, None, if◌then◌else◌, ◌==◌, map, slice_set}
 use Rattle.std.proofs.lemmas.Bool.Decides.{eqb_tells}
 use Rattle.std.proofs.lemmas.Grind.{get_or-set_at}
