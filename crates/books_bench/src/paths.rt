@@ -1,0 +1,23 @@
+// Paths of files, and counts.
+use cta_site::{NoMemory, Text};
+use std::alloc::Global;
+
+// The path of a file.
+pub fn path_of(alloc: Global, file: u32) -> Result<Text, NoMemory> {
+    let path = format!(in alloc; "/data/atlas/file{file}")?;
+    Ok(Text::of(path))
+}
+
+// The paths of so many files.
+pub fn paths_of(alloc: Global, files: u32) -> Result<Vec<Text>, NoMemory> {
+    let mut paths = Vec::new(alloc);
+    for file in 0..files {
+        paths.push(path_of(alloc, file)?)?;
+    }
+    Ok(paths)
+}
+
+// How many files a list of this length has.
+pub fn count_of(len: usize) -> u32 {
+    u32::try_from(len).unwrap_or(u32::MAX)
+}

@@ -1,0 +1,44 @@
+// The lines that are printed.
+use std::io;
+use std::time::Instant;
+
+// Whether times are printed or numbers of calls, whether files come in an order that looks thrown or in that of their numbers,
+// and how many there are.
+#[derive(Clone, Copy)]
+pub struct Report {
+    pub timed: bool,
+    pub thrown: bool,
+    pub files: u32,
+}
+
+// The file that comes at a place, below the number of files: another one at each place, since the multiplier is prime.
+pub fn file_at(report: Report, place: u32) -> u32 {
+    if !report.thrown {
+        return place;
+    }
+    let at = u64::from(place).wrapping_mul(2654435761) % u64::from(report.files.max(1));
+    at as u32
+}
+
+// The mean of so many calls.
+fn mean(nanos: u128, calls: u32) -> u128 {
+    if calls == 0 {
+        return 0;
+    }
+    nanos / u128::from(calls)
+}
+
+// Prints the line of a call that was made so many times since the moment.
+pub fn tell(
+    rt: &HostRuntime,
+    report: Report,
+    name: &str,
+    start: Instant,
+    calls: u32,
+) -> io::Result<()> {
+    if !report.timed {
+        return println!(rt; "{name} {calls}");
+    }
+    let nanos = mean(start.elapsed(rt)?.as_nanos(), calls);
+    println!(rt; "{name} {nanos}")
+}

@@ -1,0 +1,2 @@
+pub mod PlaceInfos
+pub mod Refused

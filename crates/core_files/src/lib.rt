@@ -1,0 +1,11 @@
+//! The asks and looks of files: Put, Delete, Fetch and ArchiveInfo, refused in their order or carried out.
+#![tactic(auto)]
+
+mod deletes;
+mod looks;
+mod puts;
+mod refusals;
+
+pub use deletes::delete;
+pub use looks::{archive_info, fetch};
+pub use puts::put;
