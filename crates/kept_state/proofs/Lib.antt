@@ -3,3 +3,5 @@ pub mod Reached
 pub mod Begins
 pub mod Moves
 pub mod Mounted
+pub mod Claimed
+pub mod Batched

@@ -3,6 +3,8 @@
 #![tactic(auto)]
 
 mod calls;
+mod claims;
+mod contents;
 mod files;
 mod mounts;
 mod sessions;
