@@ -1,0 +1,57 @@
+// Batches that are to be written.
+ghost use Rattle.std.specs.Prelude.{◌≡◌, ◌≤◌, IfOk, IfErr, OnErr};
+ghost use Rattle.cta_model.specs.declared.asks.Direction.TheVariants as direction;
+ghost use Rattle.cta_model.specs.Answers.{answer_of, is_accepted};
+ghost use Rattle.cta_model.specs.Bare.{bare_answer};
+ghost use Rattle.cta_model.specs.Hands.{HandBack};
+ghost use Rattle.cta_model.specs.Kept.{kept_after};
+ghost use Rattle.cta_model.specs.Legal.{IsMountOf, greatest_moment};
+ghost use Rattle.cta_model.specs.Mounts.{mount_of};
+
+use blob::Told;
+use cta_model::{Answer, Ask, Hand, Refusal};
+use cta_site::NoMemory;
+use kept_state::KeptState;
+
+/// Answers the Claim of a mount that writes at this moment, in seconds since 1970, or at the last entry's where that is later.
+///
+/// The answer is the sequential archive's on the history: Unknown where the mount is not open, Nothing where nothing that waits fits on
+/// its tape, and otherwise the refusal HistoryFull or the batch with its contents. A Claim that is accepted appends its one entry, and any
+/// other changes nothing. NoMemory changes nothing, and gives the ask back. Its cost is the number of the items, each with the logarithm of
+/// the number of queued jobs.
+pub fn claim<M: Told + Drop>(
+    state: &mut KeptState<M>,
+    at: u64,
+    mount: u32,
+) -> Result<(Answer, Hand<M>), (NoMemory, Ask, Hand<M>)>
+    requires at { at ≤ greatest_moment }
+    requires fit { IsMountOf direction.Archive (mount_of state.old.history mount) }
+    ensures answer { IfOk result (λ r. bare_answer r.0 ≡ answer_of state.old.site state.old.history at (Ask.Claim mount)) }
+    ensures kept { IfOk result (λ r. state.new ≡ kept_after state.old at (Ask.Claim mount) (bare_answer r.0)) }
+    ensures hand { IfOk result (λ r. HandBack M.told (is_accepted (bare_answer r.0)) state.old.history state.new.history (Ask.Claim mount) (bare_answer r.0) Hand.Nothing r.1) }
+    ensures back { IfErr result (λ e. (e.1 ≡ Ask.Claim mount) × (e.2 ≡ Hand.Nothing)) }
+    ensures same { OnErr result (state.new ≡ state.old) }
+{
+    if state.direction_of(mount).is_none() {
+        return Ok((Answer::Refused(Refusal::Unknown), Hand::Nothing));
+    }
+    let items = match state.batch_to_write(at, mount) {
+        Ok(items) => items,
+        Err(error) => return Err((error, Ask::Claim { mount }, Hand::Nothing)),
+    };
+    let count = items.as_slice().len();
+    if count == 0 {
+        return Ok((Answer::Nothing, Hand::Nothing));
+    }
+    if state.would_pass(1 + count as u64) {
+        return Ok((Answer::Refused(Refusal::HistoryFull), Hand::Nothing));
+    }
+    let blobs = match state.contents_of(items.as_slice()) {
+        Ok(blobs) => blobs,
+        Err(error) => return Err((error, Ask::Claim { mount }, Hand::Nothing)),
+    };
+    match state.claim(at, mount, items) {
+        Ok(answer) => Ok((answer, Hand::Blobs(blobs))),
+        Err((error, _items)) => Err((error, Ask::Claim { mount }, Hand::Nothing)),
+    }
+}

@@ -1,0 +1,13 @@
+//! The asks of drives' sessions that write: Next, the Claim of a mount that writes, Flushed and
+//! End, refused in their order or carried out.
+#![tactic(auto)]
+
+mod claims;
+mod ends;
+mod flushes;
+mod nexts;
+
+pub use claims::claim;
+pub use ends::end;
+pub use flushes::flushed;
+pub use nexts::next;
