@@ -4,7 +4,7 @@ use Rattle.std.specs.Prelude.{◌&&◌, filter, if◌then◌else◌, nat_le}
 use Rattle.cta_model.specs.declared.asks.Job.{Job}
 use Rattle.part_values.specs.declared.jobs.Line.{Line}
 use Rattle.part_values.specs.Order.{ComesBefore, InOrder, goes_before}
-use Rattle.part_answers.specs.Batches.{taken_lines}
+use Rattle.entry_steps.specs.Batches.{taken_lines}
 use Rattle.job_queues.specs.Fitting.{first_fitting, first_line, fits, next_fitting}
 use Rattle.job_queues.specs.Laws.{before_one_way, before_splits}
 use Rattle.job_queues.specs.Waiting.{jobs_of}

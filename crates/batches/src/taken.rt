@@ -1,7 +1,7 @@
 // The jobs of a queue that fit beside each other.
 ghost use Rattle.std.specs.Prelude.{◌≡◌, ◌<◌, length, IfOk};
 ghost use Rattle.part_values.specs.Queues.{lines_in};
-ghost use Rattle.part_answers.specs.Batches.{taken_lines};
+ghost use Rattle.entry_steps.specs.Batches.{taken_lines};
 ghost use Rattle.job_queues.specs.Fitting.{first_fitting};
 ghost use Rattle.batches.specs.Taken.{bytes_taken, lines_behind};
 

@@ -4,20 +4,20 @@ use Rattle.std.proofs.Common.{◌∙◌, sym, ap, subst}
 use Rattle.cta_site.specs.declared.site.Site.{Site}
 use Rattle.cta_model.specs.History.{History}
 use Rattle.job_steps.specs.Parts.{JobParts, JobPartsStand, no_job_parts}
-use Rattle.mount_steps.specs.Mounts.{AreOpenMounts}
-use Rattle.failed_steps.specs.Failed.{failed_after}
-use Rattle.recall_steps.specs.AllAsks.{parts_after}
-use Rattle.mount_steps.proofs.RowSteps.{rows_move}
-use Rattle.mount_steps.proofs.DownSteps.{downs_move, mounts_start_empty}
-use Rattle.failed_steps.proofs.FailedSteps.{failed_move, failed_start_empty}
-use Rattle.recall_steps.proofs.AllAsks.{job_parts_move}
-use Rattle.space_parts.proofs.Together.{calls_move_parts, first_parts_stand}
+use Rattle.job_steps.specs.Mounts.{AreOpenMounts}
+use Rattle.queue_laws.specs.Failed.{failed_after}
+use Rattle.job_steps.specs.AllAsks.{parts_after}
+use Rattle.job_steps.proofs.RowSteps.{rows_move}
+use Rattle.job_steps.proofs.DownSteps.{downs_move, mounts_start_empty}
+use Rattle.queue_laws.proofs.FailedSteps.{failed_move, failed_start_empty}
+use Rattle.job_steps.proofs.AllAsks.{job_parts_move}
+use Rattle.space_steps.proofs.Together.{calls_move_parts, first_parts_stand}
 use Rattle.part_values.specs.Counts.{count_in}
 use Rattle.part_values.specs.declared.mounts.OpenMount.{OpenMount}
 use Rattle.cta_model.specs.declared.asks.Direction.{Direction}
 use Rattle.cta_model.specs.declared.asks.Direction.TheVariants as direction
 use Rattle.entry_steps.specs.AllParts.{TellSameJobs, empty_parts, jobs_in}
-use Rattle.entry_steps.specs.Laws.{CallsMoveAllParts, EmptyPartsStand}
+use Rattle.entry_steps.specs.EntryLaws.{CallsMoveAllParts, EmptyPartsStand}
 
 -- job parts that tell the same as some that stand for a history stand for it
 stand_same : (site : Site) (h : History) (a b : JobParts) → TellSameJobs a b → JobPartsStand site h b → JobPartsStand site h a

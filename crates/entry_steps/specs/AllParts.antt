@@ -9,7 +9,7 @@ use Rattle.part_values.specs.JobRows.{JobRows, book_in, no_rows}
 use Rattle.part_values.specs.Queues.{Queues, lines_in}
 use Rattle.part_values.specs.Counts.{Counts, count_in}
 use Rattle.job_steps.specs.Parts.{JobParts}
-use Rattle.space_parts.specs.Parts.{Parts, first_parts}
+use Rattle.space_steps.specs.Parts.{Parts, first_parts}
 
 -- the values of all parts: the index of paths, the table of tapes, the buffer and the books of stage requests and of repacks (`space`);
 -- the job book; the queues for writing, by pool, and for reading, by tape; the counts of open mounts; the open mounts; the drives that

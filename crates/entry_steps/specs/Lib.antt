@@ -1,3 +1,14 @@
 pub mod AllParts
 pub mod Stands
-pub mod Laws
+pub mod EntryLaws
+pub mod Files
+pub mod Choices
+pub mod Batches
+pub mod Sessions
+pub mod Operators
+pub mod Reports
+pub mod AnswerLaws
+pub mod Shelf
+pub mod Contents
+pub mod Kept
+pub mod KeptLaws

@@ -3,11 +3,11 @@ use Rattle.std.specs.Prelude.{ℕ, ◌≡◌}
 use Rattle.cta_site.specs.declared.site.Site.{Site}
 use Rattle.cta_model.specs.declared.entries.Entry.{Entry}
 use Rattle.cta_model.specs.History.{History, has_number}
-use Rattle.mount_steps.specs.Mounts.{AreDown, AreOpenMounts, downs_after, rows_after}
+use Rattle.job_steps.specs.Mounts.{AreDown, AreOpenMounts, downs_after, rows_after}
 use Rattle.job_steps.specs.Parts.{JobPartsStand}
-use Rattle.recall_steps.specs.AllAsks.{parts_after}
-use Rattle.failed_steps.specs.Failed.{failed_after, failed_jobs}
-use Rattle.space_parts.specs.Parts.{AreParts, ArePartsCalled}
+use Rattle.job_steps.specs.AllAsks.{parts_after}
+use Rattle.queue_laws.specs.Failed.{failed_after, failed_jobs}
+use Rattle.space_steps.specs.Parts.{AreParts, ArePartsCalled}
 use Rattle.entry_steps.specs.AllParts.{AllParts, TellSameJobs, jobs_in}
 
 -- all parts stand for a history

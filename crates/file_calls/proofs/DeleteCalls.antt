@@ -34,10 +34,10 @@ use Rattle.part_values.specs.Requests.{Requests, RequestsAgree, finish_all, requ
 use Rattle.part_values.specs.Room.{Roomed}
 use Rattle.part_values.specs.Tapes.{HasDropped, Table}
 use Rattle.queue_laws.specs.Books.{jobs_of_file}
-use Rattle.book_steps.specs.Calls.{copies_named, readers, waiters, writers}
+use Rattle.space_steps.specs.BookCalls.{copies_named, readers, waiters, writers}
 use Rattle.repack_book.specs.Kept as kept_book
 use Rattle.repack_book.specs.Kept.{Kept, repacks_of}
-use Rattle.recall_steps.specs.AllAsks.{delete_named}
+use Rattle.job_steps.specs.AllAsks.{delete_named}
 use Rattle.entry_steps.specs.AllParts.{TellSameJobs, jobs_in}
 use Rattle.kept_parts.specs.Called.{AreKeptCalled}
 use Rattle.kept_parts.specs.Kept.{ArePartsKept, values_of}

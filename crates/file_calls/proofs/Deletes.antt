@@ -22,9 +22,9 @@ use Rattle.cta_laws.proofs.Ranges.{any_in_range, any_map}
 use Rattle.cta_laws.proofs.RepackLaw.{ItemStands, items_stand}
 use Rattle.cta_laws.proofs.Tests.{bool_cases, or_left, or_right}
 use Rattle.part_values.specs.Repacks.{Repacks, RepacksAgree, is_reading, is_writing, reading_copies, repack_in, set_states, writers_in}
-use Rattle.book_steps.specs.Books.{AreRepacks}
-use Rattle.book_steps.specs.Calls.{copies_named, readers, writers}
-use Rattle.book_steps.proofs.RepackTurns.{all_set, has_target, items_twice, readers_hit, set_live, set_off, sets_are, with_items, writers_are, writers_hit}
+use Rattle.space_steps.specs.Books.{AreRepacks}
+use Rattle.space_steps.specs.BookCalls.{copies_named, readers, writers}
+use Rattle.space_steps.proofs.RepackTurns.{all_set, has_target, items_twice, readers_hit, set_live, set_off, sets_are, with_items, writers_are, writers_hit}
 use Rattle.file_calls.specs.Gone.{AreGone, gone_item, gone_items, is_copy_to, writes_copy}
 use Rattle.file_calls.proofs.Items.{gone_both}
 

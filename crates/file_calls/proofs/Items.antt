@@ -13,7 +13,7 @@ use Rattle.cta_laws.proofs.Bools.{eq_flip}
 use Rattle.cta_laws.proofs.Tests.{bool_cases}
 use Rattle.cta_laws.proofs.WaitLists.{number_append}
 use Rattle.part_values.specs.Repacks.{Repacks, RepacksAgree, is_writing, repack_in, set_item, set_state}
-use Rattle.book_steps.proofs.RepackTurns.{items_same, items_stay, items_twice, set_is, with_items}
+use Rattle.space_steps.proofs.RepackTurns.{items_same, items_stay, items_twice, set_is, with_items}
 use Rattle.file_calls.specs.Gone.{AreGone, gone_item, gone_items, is_copy_to, writes_copy}
 
 -- ---- steps in turn

@@ -16,7 +16,7 @@ use Rattle.part_values.specs.declared.jobs.Line.{Line}
 use Rattle.part_values.specs.Order.{goes_before}
 use Rattle.part_values.specs.Queues.{Lines, add_at, added, insert_line}
 use Rattle.queue_laws.specs.Queued.{put_jobs}
-use Rattle.queue_steps.specs.Lines.{add_jobs, line_of}
+use Rattle.queue_laws.specs.Lines.{add_jobs, line_of}
 use Rattle.job_queues.specs.Waiting.{bytes_of, jobs_of}
 
 -- ---- the pool of an archive job

@@ -19,8 +19,8 @@ use Rattle.part_values.specs.Queues.{Queues, lines_in}
 use Rattle.part_values.specs.Room.{Roomed}
 use Rattle.part_values.specs.Tapes.{Table, TablesAgree}
 use Rattle.queue_laws.specs.Queued.{put_jobs}
-use Rattle.queue_steps.specs.Lines.{add_jobs}
-use Rattle.space_calls.proofs.SameBuffers.{buffer_calls_agree}
+use Rattle.queue_laws.specs.Lines.{add_jobs}
+use Rattle.space_steps.proofs.SameBuffers.{buffer_calls_agree}
 use Rattle.space_steps.specs.Tapes.{IsTable}
 use Rattle.kept_parts.specs.Called.{AreKeptCalled}
 use Rattle.kept_parts.specs.Kept.{ArePartsKept}

@@ -16,7 +16,7 @@ use Rattle.part_values.specs.Names.{Names, NamesAgree, add_name}
 use Rattle.part_values.specs.Queues.{Queues, lines_in}
 use Rattle.part_values.specs.Room.{Roomed}
 use Rattle.queue_laws.specs.Queued.{put_jobs}
-use Rattle.queue_steps.specs.Lines.{add_jobs}
+use Rattle.queue_laws.specs.Lines.{add_jobs}
 use Rattle.kept_parts.specs.Kept.{ArePartsKept}
 use Rattle.kept_parts.specs.Laws.{KeptPartsMove}
 use Rattle.kept_parts.specs.declared.parts.KeptParts.{KeptParts}

@@ -35,8 +35,8 @@ use Rattle.part_values.specs.declared.space.Resident.{Resident}
 use Rattle.part_values.specs.Held.{Held, HeldAgree, bytes_of, evict, evicted_for, is_held, numbers, without}
 use Rattle.part_values.specs.Queues.{Lines}
 use Rattle.queue_laws.proofs.Members.{queue_members}
-use Rattle.queue_steps.specs.Lines.{AreLines, line_of}
-use Rattle.queue_steps.proofs.PutSteps.{not_live_yet}
+use Rattle.queue_laws.specs.Lines.{AreLines, line_of}
+use Rattle.queue_laws.proofs.PutSteps.{not_live_yet}
 use Rattle.space_steps.specs.Held.{IsHeld}
 use Rattle.space_steps.proofs.Places.{new_dead}
 use Rattle.space_steps.proofs.Told.{bytes_is, evicted_is, held_is}

@@ -8,8 +8,8 @@ use Rattle.cta_model.specs.Stages.{StageRequest}
 use Rattle.part_values.specs.declared.space.FileEnd.{FileEnd}
 use Rattle.part_values.specs.declared.space.FileEnd.TheVariants as ends
 use Rattle.part_values.specs.Requests.{Requests, RequestsAgree, ended_file, finish, finish_all, request_in, turned_file}
-use Rattle.book_steps.proofs.RequestTurns.{all_turned, finished_are, with_files, with_same}
-use Rattle.book_steps.proofs.SameBooks.{request_calls_agree}
+use Rattle.space_steps.proofs.RequestTurns.{all_turned, finished_are, with_files, with_same}
+use Rattle.space_steps.proofs.SameBooks.{request_calls_agree}
 use Rattle.file_calls.specs.Waiting.{AreAll, with_file}
 
 -- ---- texts that are all the same

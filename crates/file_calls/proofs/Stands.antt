@@ -24,7 +24,7 @@ use Rattle.part_values.specs.JobBook.{job_if}
 use Rattle.part_values.specs.Queues.{Lines}
 use Rattle.part_values.specs.Tapes.{Table, place_in}
 use Rattle.queue_laws.specs.Books.{archive_jobs, jobs_of_file}
-use Rattle.queue_steps.specs.Lines.{AreLines}
+use Rattle.queue_laws.specs.Lines.{AreLines}
 use Rattle.job_queues.specs.Waiting.{jobs_of}
 use Rattle.file_calls.specs.Jobs.{IsPlacedOn, StandsWhere}
 use Rattle.file_calls.proofs.Lines.{key_is_pool}

@@ -9,7 +9,7 @@ use Rattle.cta_laws.proofs.JobLaw.{not_true}
 use Rattle.cta_laws.proofs.Tests.{bool_cases}
 use Rattle.part_values.specs.Repacks.{Repacks, RepacksAgree, repack_in, set_state, writers_in}
 use Rattle.repack_book.specs.Walks.{IsFirstFrom}
-use Rattle.book_steps.proofs.RepackTurns.{writers_are}
+use Rattle.space_steps.proofs.RepackTurns.{writers_are}
 use Rattle.file_calls.specs.Gone.{AreGone, is_copy_to, writes_copy}
 use Rattle.file_calls.proofs.Items.{gone_both, gone_same, none_gone, set_gone, writes_same}
 

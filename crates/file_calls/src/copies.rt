@@ -10,8 +10,8 @@ ghost use Rattle.part_values.specs.JobBook.{TellSame, bear_jobs};
 ghost use Rattle.part_values.specs.JobRows.{book_in};
 ghost use Rattle.part_values.specs.Queues.{add_at, lines_in};
 ghost use Rattle.queue_laws.specs.Queued.{put_jobs};
-ghost use Rattle.queue_steps.specs.Lines as said;
-ghost use Rattle.queue_steps.specs.Lines.{add_jobs};
+ghost use Rattle.queue_laws.specs.Lines as said;
+ghost use Rattle.queue_laws.specs.Lines.{add_jobs};
 ghost use Rattle.job_queues.specs.Waiting.{bytes_of, jobs_of};
 
 use archive_queue::ArchiveQueue;

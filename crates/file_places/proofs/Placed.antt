@@ -6,7 +6,7 @@ use Rattle.cta_site.specs.declared.site.TapeState.{TapeState}
 use Rattle.cta_model.specs.declared.states.Place.{Place}
 use Rattle.cta_model.specs.Tapes.{is_broken}
 use Rattle.part_values.specs.Tapes.{Table, place_in, row_in}
-use Rattle.part_answers.specs.Files.{has_place_told}
+use Rattle.entry_steps.specs.Files.{has_place_told}
 use Rattle.file_places.specs.Copies.{is_on}
 
 -- the places among these that are on tapes that are not BROKEN

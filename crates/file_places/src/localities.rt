@@ -2,7 +2,7 @@
 ghost use Rattle.std.specs.Prelude.{◌≡◌, ◌≤◌};
 ghost use Rattle.cta_model.specs.Localities.{locality_by};
 ghost use Rattle.part_values.specs.Held.{Held, is_held};
-ghost use Rattle.part_answers.specs.Files.{locality_told};
+ghost use Rattle.entry_steps.specs.Files.{locality_told};
 
 use crate::copies::{all_placed, some_disabled, some_readable};
 use cta_model::Locality;

@@ -37,14 +37,14 @@ use Rattle.job_steps.proofs.BookSteps.{end_same, tell_chain}
 use Rattle.job_steps.proofs.PartSteps.{parts_flushed}
 use Rattle.space_steps.specs.Buffer.{is_put_of}
 use Rattle.space_steps.specs.Tapes.{IsTable}
-use Rattle.table_calls.proofs.Flags.{flag_is_found}
-use Rattle.table_calls.proofs.TableMoves.{calls_move_table}
-use Rattle.book_steps.specs.Books.{AreRepacks}
-use Rattle.book_steps.specs.Calls.{jobs_done, writers}
-use Rattle.book_steps.proofs.RepackCalls.{calls_move_repacks}
-use Rattle.space_calls.specs.Calls.{AreTouched, AreUnpinned, has_pair}
-use Rattle.space_calls.proofs.PinLists.{unpin_all_is}
-use Rattle.space_calls.proofs.Stands.{set_all_rest}
+use Rattle.space_steps.proofs.Flags.{flag_is_found}
+use Rattle.space_steps.proofs.TableMoves.{calls_move_table}
+use Rattle.space_steps.specs.Books.{AreRepacks}
+use Rattle.space_steps.specs.BookCalls.{jobs_done, writers}
+use Rattle.space_steps.proofs.RepackCalls.{calls_move_repacks}
+use Rattle.space_steps.specs.BufferCalls.{AreTouched, AreUnpinned, has_pair}
+use Rattle.space_steps.proofs.PinLists.{unpin_all_is}
+use Rattle.space_steps.proofs.Stands.{set_all_rest}
 use Rattle.entry_steps.specs.AllParts.{jobs_in}
 use Rattle.repack_book.specs.Kept.{Kept, NamesAgree, repacks_of}
 use Rattle.disk_buffer.specs.Stays.{content_in}

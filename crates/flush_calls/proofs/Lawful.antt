@@ -41,8 +41,8 @@ use Rattle.part_values.specs.declared.mounts.OpenMount.{OpenMount}
 use Rattle.part_values.specs.declared.space.TapeRow.{TapeRow}
 use Rattle.part_values.specs.Mounts.{has_mount, row_of}
 use Rattle.part_values.specs.Tapes.{Table, row_in}
-use Rattle.mount_steps.specs.Mounts.{AreOpenMounts, IsRow}
-use Rattle.mount_steps.proofs.RowAnswers.{rows_tell_mounts}
+use Rattle.job_steps.specs.Mounts.{AreOpenMounts, IsRow}
+use Rattle.job_steps.proofs.RowAnswers.{rows_tell_mounts}
 use Rattle.space_steps.specs.Tapes.{IsTable}
 use Rattle.flush_calls.specs.Items.{AreOfCopies}
 

@@ -5,7 +5,7 @@ use Rattle.std.proofs.lemmas.List.{map-append, take_more}
 use Rattle.cta_model.specs.declared.asks.Job.{Job}
 use Rattle.cta_laws.proofs.Claims.{AllOf}
 use Rattle.part_values.specs.Held.{Held, HeldAgree, set_all, set_safe}
-use Rattle.space_calls.proofs.SameBuffers.{buffer_calls_agree}
+use Rattle.space_steps.proofs.SameBuffers.{buffer_calls_agree}
 use Rattle.flush_calls.specs.Items.{job_files}
 
 -- buffers that agree with one another agree

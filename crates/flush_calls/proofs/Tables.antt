@@ -8,7 +8,7 @@ use Rattle.cta_model.specs.declared.asks.Item.{Item}
 use Rattle.part_values.specs.declared.space.TapeRow.{TapeRow}
 use Rattle.part_values.specs.JobRows.{JobRows}
 use Rattle.part_values.specs.Tapes.{HasFlushed, HaveFlushed, Table, row_in}
-use Rattle.part_answers.specs.Sessions.{fate_told}
+use Rattle.entry_steps.specs.Sessions.{fate_told}
 use Rattle.flush_calls.specs.Items.{AreOfCopies, IsOfCopy, with_fates}
 
 -- ---- calls of the table

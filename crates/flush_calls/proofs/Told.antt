@@ -17,8 +17,8 @@ use Rattle.cta_laws.proofs.Bools.{eq_flip}
 use Rattle.part_values.specs.JobRows.{JobRows, book_in}
 use Rattle.queue_laws.specs.Books.{IsBook}
 use Rattle.space_steps.specs.Buffer.{is_put_of}
-use Rattle.book_steps.specs.Calls.{jobs_done}
-use Rattle.part_answers.specs.Sessions.{birth_told, fate_told, is_live_told}
+use Rattle.space_steps.specs.BookCalls.{jobs_done}
+use Rattle.entry_steps.specs.Sessions.{birth_told, fate_told, is_live_told}
 use Rattle.job_book.specs.Live.{lives}
 use Rattle.flush_calls.specs.Items.{fates_told, job_files, live_jobs, with_fates}
 

@@ -12,10 +12,10 @@ use Rattle.cta_model.specs.Repacks.{Repack, is_live_item}
 use Rattle.cta_laws.proofs.Tests.{bool_cases, or_cases, or_left, or_right}
 use Rattle.part_values.specs.Held.{Held, HeldAgree, unpin, unpin_all}
 use Rattle.part_values.specs.Repacks.{Repacks, RepacksAgree, has_item_by, is_writing, repack_in, set_item, set_state, set_states}
-use Rattle.book_steps.specs.Calls.{writers}
-use Rattle.book_steps.proofs.RepackTurns.{set_is, with_items}
-use Rattle.space_calls.specs.Calls.{has_pair}
-use Rattle.space_calls.proofs.SameBuffers.{buffer_calls_agree}
+use Rattle.space_steps.specs.BookCalls.{writers}
+use Rattle.space_steps.proofs.RepackTurns.{set_is, with_items}
+use Rattle.space_steps.specs.BufferCalls.{has_pair}
+use Rattle.space_steps.proofs.SameBuffers.{buffer_calls_agree}
 use Rattle.flush_calls.specs.Unpinned.{AreTakenOff, is_pinned_by, unpin_if}
 use Rattle.flush_calls.proofs.Marks.{held_chain, held_self}
 use Rattle.flush_calls.proofs.Writing.{book_is, done_if, ends, is_written, writes}

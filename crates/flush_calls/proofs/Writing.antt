@@ -15,8 +15,8 @@ use Rattle.cta_model.specs.Repacks.{Repack, is_live_item}
 use Rattle.cta_laws.proofs.Tests.{bool_cases}
 use Rattle.cta_laws.proofs.Bools.{eq_flip}
 use Rattle.part_values.specs.Repacks.{Repacks, RepacksAgree, has_item_by, is_writing, repack_in, set_item, set_state, set_states, writers_in}
-use Rattle.book_steps.specs.Calls.{writers}
-use Rattle.book_steps.proofs.RepackTurns.{all_set, items_same, items_stay, items_twice, set_is, set_live, set_off, sets_are, with_items, writers_are, writers_hit}
+use Rattle.space_steps.specs.BookCalls.{writers}
+use Rattle.space_steps.proofs.RepackTurns.{all_set, items_same, items_stay, items_twice, set_is, set_live, set_off, sets_are, with_items, writers_are, writers_hit}
 use Rattle.repack_book.specs.Walks.{IsFirstFrom}
 
 -- ---- one item

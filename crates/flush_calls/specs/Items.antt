@@ -6,7 +6,7 @@ use Rattle.cta_model.specs.declared.asks.Item.{Item}
 use Rattle.cta_model.specs.declared.asks.Job.{Job}
 use Rattle.cta_model.specs.Mounts.{item_jobs}
 use Rattle.part_values.specs.JobRows.{JobRows}
-use Rattle.part_answers.specs.Sessions.{fate_told, is_live_told}
+use Rattle.entry_steps.specs.Sessions.{fate_told, is_live_told}
 
 -- an item is of a copy from 1 to 4
 abbrev pub IsOfCopy : Item → Type 0

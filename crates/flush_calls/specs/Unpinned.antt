@@ -4,7 +4,7 @@ use Rattle.cta_model.specs.declared.states.RepackCopy.{RepackCopy}
 use Rattle.cta_model.specs.Repacks.{is_live_item}
 use Rattle.part_values.specs.Held.{Held, HeldAgree, unpin, unpin_all}
 use Rattle.part_values.specs.Repacks.{Repacks, has_item_by, repack_in}
-use Rattle.space_calls.specs.Calls.{has_pair}
+use Rattle.space_steps.specs.BufferCalls.{has_pair}
 
 -- whether the repack of this number pins the file: one of its items of the file is live
 abbrev pub is_pinned_by : Repacks → ℕ → ℕ → Bool

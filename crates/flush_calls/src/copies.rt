@@ -3,7 +3,7 @@ ghost use Rattle.std.specs.Prelude.{◌≡◌, [], ◌∷◌, not};
 ghost use Rattle.part_values.specs.Held.{HeldAgree};
 ghost use Rattle.part_values.specs.Repacks.{RepacksAgree, set_state, set_states};
 ghost use Rattle.repack_book.specs.Kept.{NamesAgree, repacks_of};
-ghost use Rattle.book_steps.specs.Calls.{writers};
+ghost use Rattle.space_steps.specs.BookCalls.{writers};
 ghost use Rattle.flush_calls.specs.Unpinned.{AreTakenOff, is_pinned_by, unpin_if};
 
 use cta_model::{ItemState, Job};

@@ -1,6 +1,6 @@
 // What becomes of the jobs of items.
 ghost use Rattle.std.specs.Prelude.{◌≡◌, IfOk};
-ghost use Rattle.part_answers.specs.Sessions.{fate_told, is_live_told};
+ghost use Rattle.entry_steps.specs.Sessions.{fate_told, is_live_told};
 ghost use Rattle.flush_calls.specs.Items.{fates_told, live_jobs};
 
 use cta_model::{Fate, Item, Job};

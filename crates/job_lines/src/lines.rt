@@ -5,7 +5,7 @@ ghost use Rattle.cta_model.specs.History.{entry_of};
 ghost use Rattle.cta_model.specs.Policies.{age_in, priority_in};
 ghost use Rattle.cta_model.specs.Queues.{pool_of_job};
 ghost use Rattle.kept_history.specs.Puts.{is_put};
-ghost use Rattle.queue_steps.specs.Lines.{line_of};
+ghost use Rattle.queue_laws.specs.Lines.{line_of};
 
 use cta_model::{Direction, Job};
 use cta_site::{Policy, ValidSite};

@@ -32,7 +32,7 @@ use Rattle.cta_model.specs.declared.answers.Answer.TheVariants as answer
 use Rattle.cta_model.specs.declared.asks.Direction.TheVariants as direction
 use Rattle.job_steps.proofs.LastSteps.{TellLive}
 use Rattle.part_values.specs.JobBook.{bear_jobs, charge_jobs, drop_files, drop_from, end_jobs, give_back_jobs, subscribe_files}
-use Rattle.queue_steps.proofs.EndSteps.{done_among, fates_of, flip_same, flushed_recall, flushed_told, flushed_way}
+use Rattle.queue_laws.proofs.EndSteps.{done_among, fates_of, flip_same, flushed_recall, flushed_told, flushed_way}
 use Rattle.job_steps.proofs.BookSteps.{archive_unless, either, ended_archive, ended_recall, recall_unless}
 use Rattle.cta_laws.specs.Changes.{may_change_claims, may_charge}
 use Rattle.cta_laws.proofs.Claimers.{claimer_step}
@@ -40,7 +40,7 @@ use Rattle.cta_laws.proofs.Frames.{charges_same, claimer_same}
 use Rattle.cta_laws.specs.Claims.{claimer_after}
 use Rattle.queue_laws.specs.Books.{book_of}
 use Rattle.queue_laws.proofs.Orders.{has_filter}
-use Rattle.queue_steps.proofs.FailSteps.{failed_charges}
+use Rattle.queue_laws.proofs.FailSteps.{failed_charges}
 use Rattle.cta_laws.proofs.JobFiles.{no_archive, recall_copy, recalled_way}
 
 -- ---- Flushed

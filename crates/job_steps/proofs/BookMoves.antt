@@ -35,7 +35,7 @@ use Rattle.cta_model.specs.Charges.{is_last_charge}
 use Rattle.cta_model.specs.RepackItems.{is_repacked}
 use Rattle.cta_model.specs.Buffer.{is_resident}
 use Rattle.cta_model.specs.declared.asks.Fate.TheVariants as fate
-use Rattle.queue_steps.proofs.BirthSteps.{birth_said, subscribed_birth}
+use Rattle.queue_laws.proofs.BirthSteps.{birth_said, subscribed_birth}
 
 -- what bears, claims or charges nothing
 

@@ -34,8 +34,8 @@ use Rattle.cta_laws.proofs.Claimers.{claimer_step}
 use Rattle.cta_laws.specs.Claims.{claimer_after}
 use Rattle.queue_laws.specs.Queued.{put_jobs}
 use Rattle.cta_laws.proofs.Bools.{same_bool}
-use Rattle.queue_steps.proofs.PutSteps.{put_archive, put_recall}
-use Rattle.queue_steps.proofs.EndSteps.{same_file}
+use Rattle.queue_laws.proofs.PutSteps.{put_archive, put_recall}
+use Rattle.queue_laws.proofs.EndSteps.{same_file}
 
 -- ---- books that tell the same
 

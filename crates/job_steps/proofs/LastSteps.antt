@@ -17,7 +17,7 @@ use Rattle.cta_laws.proofs.Tests.{bool_cases}
 use Rattle.part_values.specs.JobBook.{Book, TellSame, bear_jobs}
 use Rattle.queue_laws.specs.Books.{book_of}
 use Rattle.queue_laws.specs.LastBirths.{last_birth}
-use Rattle.queue_steps.proofs.BirthSteps.{birth_said, none_born, born_said}
+use Rattle.queue_laws.proofs.BirthSteps.{birth_said, none_born, born_said}
 
 -- two books tell the same of live jobs, claims and charges
 pub record TellLive (a b : Book) : Type 0 where

@@ -1,3 +1,7 @@
+pub mod CountSteps
+pub mod RowSteps
+pub mod RowAnswers
+pub mod DownSteps
 pub mod BookSteps
 pub mod BookEnds
 pub mod PartSteps
@@ -6,3 +10,13 @@ pub mod StaleParts
 pub mod LastSteps
 pub mod BookMoves
 pub mod TurnLaws
+pub mod StageParts
+pub mod RetryParts
+pub mod RepackParts
+pub mod ReadParts
+pub mod CancelParts
+pub mod Requested
+pub mod Waits
+pub mod RepackLists
+pub mod StateLists
+pub mod AllAsks

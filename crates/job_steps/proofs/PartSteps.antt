@@ -31,22 +31,22 @@ use Rattle.cta_model.specs.declared.asks.Direction.TheVariants as direction
 use Rattle.part_values.specs.declared.jobs.Line.{Line}
 use Rattle.part_values.specs.Queues.{Lines, add_at, insert_line, taken_out}
 use Rattle.part_values.specs.Order.{InOrder, insert_jobs}
-use Rattle.queue_steps.proofs.LineSteps.{claim_others, lines_claim, lines_leave, lines_older, lines_stay, map_inserts}
-use Rattle.queue_steps.specs.Lines.{AreLines, add_jobs, line_of, of_way}
-use Rattle.queue_steps.proofs.BirthSteps.{is_of_key}
+use Rattle.queue_laws.proofs.LineSteps.{claim_others, lines_claim, lines_leave, lines_older, lines_stay, map_inserts}
+use Rattle.queue_laws.specs.Lines.{AreLines, add_jobs, line_of, of_way}
+use Rattle.queue_laws.proofs.BirthSteps.{is_of_key}
 use Rattle.queue_laws.proofs.Orders.{has_filter, not_after}
 use Rattle.queue_laws.proofs.Moves.{queue_enters}
-use Rattle.queue_steps.proofs.PutSteps.{has_put, is_put_job, not_live_yet, put_goes, put_key, put_order, put_point, put_recalls}
+use Rattle.queue_laws.proofs.PutSteps.{has_put, is_put_job, not_live_yet, put_goes, put_key, put_order, put_point, put_recalls}
 use Rattle.queue_laws.specs.Queued.{is_of_pool, put_jobs}
-use Rattle.queue_steps.proofs.FailSteps.{failed_queue, twice_filter}
+use Rattle.queue_laws.proofs.FailSteps.{failed_queue, twice_filter}
 use Rattle.job_steps.specs.Parts.{JobParts, JobPartsStand, after_claim, after_delete, after_end, after_failed, after_flushed, after_next, after_put, charged_out, still_live, take_batch}
-use Rattle.mount_steps.proofs.CountSteps.{counts_end, counts_next, counts_stay}
+use Rattle.job_steps.proofs.CountSteps.{counts_end, counts_next, counts_stay}
 use Rattle.job_steps.proofs.BookSteps.{OfFile, archive_of_file, bear_same, charge_same, claim_same, end_same, give_back_same, if_of_file, tell_chain}
 use Rattle.job_steps.proofs.BookMoves.{book_claim, book_delete, book_failed, book_flushed, book_put, book_stays}
 use Rattle.cta_laws.specs.Changes.{may_change_claims, may_change_jobs, may_change_keys, may_change_mounts, may_charge}
 use Rattle.queue_laws.specs.Books.{archive_jobs, book_of, jobs_of_file}
-use Rattle.queue_steps.proofs.QueueSteps.{queue_same}
-use Rattle.queue_steps.proofs.EndSteps.{delete_file_queue, flushed_queue}
+use Rattle.queue_laws.proofs.QueueSteps.{queue_same}
+use Rattle.queue_laws.proofs.EndSteps.{delete_file_queue, flushed_queue}
 use Rattle.part_values.specs.JobBook.{claim_jobs, job_if}
 use Rattle.queue_laws.proofs.Births.{has_both}
 use Rattle.queue_laws.proofs.Members.{queue_members}

@@ -22,18 +22,18 @@ use Rattle.cta_model.specs.declared.answers.Refusal.TheVariants as refusal
 use Rattle.cta_model.specs.declared.asks.Direction.TheVariants as direction
 use Rattle.job_steps.specs.Parts.{JobParts, JobPartsStand, after_stale, no_job_parts}
 use Rattle.part_values.specs.JobBook.{give_back_jobs}
-use Rattle.queue_steps.proofs.QueueSteps.{key_or, live_low, queued_by}
+use Rattle.queue_laws.proofs.QueueSteps.{key_or, live_low, queued_by}
 use Rattle.cta_laws.proofs.Frames.{key_same}
 use Rattle.job_steps.proofs.BookMoves.{book_recalled_stale}
-use Rattle.queue_steps.proofs.BirthSteps.{birth_said, birth_told}
+use Rattle.queue_laws.proofs.BirthSteps.{birth_said, birth_told}
 use Rattle.cta_laws.proofs.Claimers.{claimer_step}
 use Rattle.cta_laws.specs.Changes.{may_change_keys, may_change_mounts, may_subscribe}
 use Rattle.cta_laws.specs.Claims.{claimer_after}
 use Rattle.queue_laws.proofs.Moves.{queue_stays}
 use Rattle.queue_laws.specs.Books.{book_of}
-use Rattle.mount_steps.proofs.CountSteps.{counts_stay}
+use Rattle.job_steps.proofs.CountSteps.{counts_stay}
 use Rattle.job_steps.proofs.BookSteps.{give_back_same, tell_chain}
-use Rattle.queue_steps.proofs.LineSteps.{lines_stay}
+use Rattle.queue_laws.proofs.LineSteps.{lines_stay}
 
 pub parts_start : (site : Site) → JobPartsStand site [] no_job_parts
 parts_start site = record {

@@ -1,3 +1,14 @@
+pub mod Counts
+pub mod Mounts
+pub mod MountLaws
 pub mod Parts
-pub mod Laws
+pub mod JobLaws
 pub mod Turns
+pub mod Births
+pub mod BirthParts
+pub mod BirthLaws
+pub mod Ends
+pub mod RecallParts
+pub mod StateLists
+pub mod RecallLaws
+pub mod AllAsks

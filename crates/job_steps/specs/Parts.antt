@@ -17,8 +17,8 @@ use Rattle.cta_model.specs.declared.asks.Direction.TheVariants as direction
 use Rattle.part_values.specs.JobBook.{Book, bear_jobs, charge_jobs, claim_jobs, end_jobs, give_back_jobs}
 use Rattle.part_values.specs.Queues.{Lines, drop_jobs, taken_out}
 use Rattle.queue_laws.specs.Books.{IsBook, jobs_of_file}
-use Rattle.mount_steps.specs.Counts.{AreCounts}
-use Rattle.queue_steps.specs.Lines.{AreLines, add_jobs, of_way}
+use Rattle.job_steps.specs.Counts.{AreCounts}
+use Rattle.queue_laws.specs.Lines.{AreLines, add_jobs, of_way}
 use Rattle.queue_laws.specs.Queued.{put_jobs}
 use Rattle.part_values.specs.Counts.{ended_count, opened_count}
 

@@ -17,18 +17,18 @@ use Rattle.disk_buffer.specs.Stored.{nothing_held}
 use Rattle.repack_book.specs.Kept.{Kept, names_in, repacks_of}
 use Rattle.queue_laws.specs.Books.{IsBook}
 use Rattle.job_steps.specs.Parts.{JobPartsStand}
-use Rattle.mount_steps.specs.Mounts.{AreDown, AreOpenMounts}
-use Rattle.mount_steps.proofs.DownSteps.{mounts_start_empty}
-use Rattle.failed_steps.proofs.FailedSteps.{failed_start_empty}
+use Rattle.job_steps.specs.Mounts.{AreDown, AreOpenMounts}
+use Rattle.job_steps.proofs.DownSteps.{mounts_start_empty}
+use Rattle.queue_laws.proofs.FailedSteps.{failed_start_empty}
 use Rattle.space_steps.specs.Held.{IsHeld}
 use Rattle.space_steps.specs.Names.{AreNames}
 use Rattle.space_steps.specs.Tapes.{IsTable}
-use Rattle.book_steps.specs.Books.{AreRepacks, AreRequests}
-use Rattle.space_parts.specs.Parts.{first_parts}
-use Rattle.space_parts.proofs.Together.{first_parts_stand}
+use Rattle.space_steps.specs.Books.{AreRepacks, AreRequests}
+use Rattle.space_steps.specs.Parts.{first_parts}
+use Rattle.space_steps.proofs.Together.{first_parts_stand}
 use Rattle.entry_steps.specs.AllParts.{jobs_in}
 use Rattle.entry_steps.proofs.Moves.{empty_parts_stand}
-use Rattle.hand_steps.proofs.ContentLaw.{contents_start_empty}
+use Rattle.entry_steps.proofs.ContentLaw.{contents_start_empty}
 use Rattle.kept_parts.specs.Kept.{ArePartsKept, values_of}
 use Rattle.kept_parts.specs.declared.parts.KeptParts.{KeptParts}
 

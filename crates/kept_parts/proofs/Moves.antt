@@ -7,7 +7,7 @@ use Rattle.job_steps.specs.Parts.{JobPartsStand}
 use Rattle.space_steps.specs.Tapes.{IsTable}
 use Rattle.entry_steps.specs.AllParts.{jobs_in}
 use Rattle.entry_steps.proofs.Moves.{calls_move_all_parts}
-use Rattle.hand_steps.proofs.ContentLaw.{contents_move}
+use Rattle.entry_steps.proofs.ContentLaw.{contents_move}
 use Rattle.disk_buffer.specs.Stays.{content_in}
 use Rattle.kept_parts.specs.Kept.{values_of}
 use Rattle.kept_parts.specs.Same.{TellSameParts}

@@ -13,7 +13,7 @@ use Rattle.cta_model.specs.Files.{path_of}
 use Rattle.disk_buffer.specs.Stays.{content_in}
 use Rattle.repack_book.specs.Kept.{Kept, NamesAgree, names_in}
 use Rattle.entry_steps.specs.Stands.{AreCalled}
-use Rattle.hand_steps.specs.Contents.{contents_after}
+use Rattle.entry_steps.specs.Contents.{contents_after}
 use Rattle.kept_parts.specs.Kept.{AreOfSite, values_of}
 use Rattle.kept_parts.specs.declared.parts.KeptParts.{KeptParts}
 

@@ -10,7 +10,7 @@ use Rattle.repack_book.specs.Kept.{RepackNames, names_in, repacks_of}
 use Rattle.disk_buffer.specs.Stays.{content_in}
 use Rattle.entry_steps.specs.AllParts.{AllParts}
 use Rattle.entry_steps.specs.Stands.{Stands}
-use Rattle.hand_steps.specs.Contents.{AreContents}
+use Rattle.entry_steps.specs.Contents.{AreContents}
 use Rattle.kept_parts.specs.declared.parts.KeptParts.{KeptParts}
 
 -- the values of the parts, without the rooms that they have

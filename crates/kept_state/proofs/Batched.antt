@@ -38,7 +38,7 @@ use Rattle.cta_laws.specs.Lengths.{FseqsAreLow}
 use Rattle.cta_laws.specs.Space.{TapesHaveRoom}
 use Rattle.cta_laws.proofs.Claims.{AllOf, OfJob, all_mono, all_pass, batch_all}
 use Rattle.cta_laws.proofs.KeyLaw.{OpenIsGood, open_good, same_mount, way_of}
-use Rattle.hand_steps.specs.Contents.{content_of}
+use Rattle.entry_steps.specs.Contents.{content_of}
 use Rattle.kept_history.specs.Puts.{is_put, puts_file}
 use Rattle.batches.specs.Taken.{HavePuts}
 use Rattle.part_values.specs.declared.jobs.Line.{Line}
@@ -48,11 +48,11 @@ use Rattle.part_values.specs.Held.{Held}
 use Rattle.part_values.specs.Mounts.{row_of}
 use Rattle.part_values.specs.Queues.{lines_in}
 use Rattle.part_values.specs.Tapes.{row_in}
-use Rattle.mount_steps.specs.Mounts.{IsRow}
-use Rattle.part_answers.specs.Batches.{batch_told, claim_with, taken_lines, written_told}
-use Rattle.part_answers.specs.Batches.{batch_by as batch_told_by}
-use Rattle.part_answers.specs.Files.{files_of}
-use Rattle.part_answers.proofs.BatchTold.{claim_is}
+use Rattle.job_steps.specs.Mounts.{IsRow}
+use Rattle.entry_steps.specs.Batches.{batch_told, claim_with, taken_lines, written_told}
+use Rattle.entry_steps.specs.Batches.{batch_by as batch_told_by}
+use Rattle.entry_steps.specs.Files.{files_of}
+use Rattle.entry_steps.proofs.BatchTold.{claim_is}
 use Rattle.kept_parts.specs.Kept.{ArePartsKept, values_of}
 use Rattle.kept_parts.specs.declared.parts.KeptParts.{KeptParts}
 use Rattle.kept_state.specs.Contents.{AreInBuffer}

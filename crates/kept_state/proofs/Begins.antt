@@ -5,8 +5,8 @@ use Rattle.std.proofs.lemmas.List.{length-map}
 use Rattle.blob.specs.Records.{TapeRecords}
 use Rattle.cta_site.specs.declared.site.Site.{Site}
 use Rattle.cta_model.specs.Media.{IsTrueMedium}
-use Rattle.hand_steps.specs.Shelf.{IsPlaceOf}
-use Rattle.hand_steps.proofs.ShelfLaw.{shelf_starts_full}
+use Rattle.entry_steps.specs.Shelf.{IsPlaceOf}
+use Rattle.entry_steps.proofs.ShelfLaw.{shelf_starts_full}
 use Rattle.media_shelf.specs.Places.{medium_at}
 use Rattle.kept_parts.specs.declared.parts.KeptParts.{KeptParts}
 use Rattle.kept_parts.specs.Kept.{ArePartsKept}

@@ -23,9 +23,9 @@ use Rattle.cta_laws.proofs.Tests.{bool_cases, or_left}
 use Rattle.part_values.specs.declared.mounts.OpenMount.{OpenMount}
 use Rattle.part_values.specs.JobRows.{book_in}
 use Rattle.part_values.specs.Mounts.{has_mount, last_items, row_of}
-use Rattle.mount_steps.specs.Mounts.{IsRow, RowsTell}
-use Rattle.part_answers.specs.Sessions.{claims_told}
-use Rattle.part_answers.proofs.ChoiceTold.{tells_mounts}
+use Rattle.job_steps.specs.Mounts.{IsRow, RowsTell}
+use Rattle.entry_steps.specs.Sessions.{claims_told}
+use Rattle.entry_steps.proofs.ChoiceTold.{tells_mounts}
 use Rattle.kept_parts.specs.Kept.{ArePartsKept, values_of}
 use Rattle.kept_parts.specs.declared.parts.KeptParts.{KeptParts}
 

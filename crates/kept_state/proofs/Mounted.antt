@@ -21,9 +21,9 @@ use Rattle.cta_model.proofs.Appends.{is_next}
 use Rattle.cta_laws.proofs.Tests.{bool_cases}
 use Rattle.part_values.specs.declared.mounts.OpenMount.{OpenMount}
 use Rattle.part_values.specs.Mounts.{has_mount, row_of}
-use Rattle.hand_steps.specs.Shelf.{IsPlaceOf, IsShelf, IsTaken, with_tape}
-use Rattle.hand_steps.proofs.NextTape.{next_low}
-use Rattle.hand_steps.proofs.ShelfLaw.{end_brings_medium, next_takes_medium}
+use Rattle.entry_steps.specs.Shelf.{IsPlaceOf, IsShelf, IsTaken, with_tape}
+use Rattle.entry_steps.proofs.NextTape.{next_low}
+use Rattle.entry_steps.proofs.ShelfLaw.{end_brings_medium, next_takes_medium}
 use Rattle.media_shelf.specs.Places.{medium_at}
 use Rattle.mount_calls.proofs.EndedMounts.{end_is_open}
 use Rattle.mount_calls.proofs.OpenedMounts.{mount_found, next_answered, row_there}

@@ -14,7 +14,7 @@ use Rattle.cta_model.specs.declared.asks.Direction.TheVariants as direction
 use Rattle.cta_model.specs.declared.states.Mount.{Mount}
 use Rattle.cta_model.proofs.Appends.{is_next}
 use Rattle.cta_laws.specs.Changes.{may_change_mounts}
-use Rattle.hand_steps.proofs.ShelfLaw.{shelf_stays}
+use Rattle.entry_steps.proofs.ShelfLaw.{shelf_stays}
 use Rattle.media_shelf.specs.Places.{medium_at}
 use Rattle.kept_parts.specs.declared.parts.KeptParts.{KeptParts}
 use Rattle.kept_parts.specs.Kept.{ArePartsKept}

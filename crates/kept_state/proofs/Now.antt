@@ -13,13 +13,13 @@ use Rattle.cta_model.specs.Space.{bytes_to_read, evictable_size, evicted_for, fr
 use Rattle.cta_model.specs.Choice.{mount_choice}
 use Rattle.part_values.specs.declared.space.Resident.{Resident}
 use Rattle.part_values.specs.Held.{Held, bytes_of, evictable_in, evicted_for as held_evicted, free_in, pinned_in}
-use Rattle.part_answers.specs.Choices.{choice_told}
-use Rattle.part_answers.proofs.ChoiceTold.{choice_is}
+use Rattle.entry_steps.specs.Choices.{choice_told}
+use Rattle.entry_steps.proofs.ChoiceTold.{choice_is}
 use Rattle.next_mount.specs.Seen.{ChoiceIsSeen, seen_parts}
-use Rattle.part_answers.specs.Files.{locality_told}
-use Rattle.part_answers.proofs.PlaceTold.{locality_is}
+use Rattle.entry_steps.specs.Files.{locality_told}
+use Rattle.entry_steps.proofs.PlaceTold.{locality_is}
 use Rattle.cta_laws.proofs.JobFiles.{named_live}
-use Rattle.space_steps.specs.Laws.{Tells}
+use Rattle.space_steps.specs.SpaceLaws.{Tells}
 use Rattle.space_steps.proofs.Told.{buffer_tells, bytes_is}
 use Rattle.cta_laws.specs.Space.{BufferHasRoom}
 use Rattle.cta_site.specs.WellFormed.{IsWellFormed}

@@ -3,7 +3,7 @@ use Rattle.std.specs.Prelude.{◌≡◌, List, Some}
 use Rattle.std.specs.List.{AllByRecursion}
 use Rattle.cta_model.specs.declared.asks.Item.{Item}
 use Rattle.cta_model.specs.History.{History}
-use Rattle.hand_steps.specs.Contents.{content_of}
+use Rattle.entry_steps.specs.Contents.{content_of}
 
 -- the file of each item is in the buffer, with the item's sum
 abbrev pub AreInBuffer : History → List Item → Type 0

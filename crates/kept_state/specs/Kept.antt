@@ -5,7 +5,7 @@ use Rattle.cta_site.specs.declared.site.Site.{Site}
 use Rattle.cta_model.specs.History.{History}
 use Rattle.cta_model.specs.Legal.{IsLegal}
 use Rattle.cta_model.specs.Media.{IsTrueWhereTold}
-use Rattle.hand_steps.specs.Shelf.{IsShelf}
+use Rattle.entry_steps.specs.Shelf.{IsShelf}
 use Rattle.media_shelf.specs.Places.{medium_at}
 use Rattle.kept_parts.specs.Kept.{ArePartsKept}
 use Rattle.kept_parts.specs.declared.parts.KeptParts.{KeptParts}

@@ -10,7 +10,7 @@ ghost use Rattle.cta_model.specs.History.{is_empty, moment_of};
 ghost use Rattle.cta_model.specs.Legal.{IsMountOf, greatest_moment};
 ghost use Rattle.cta_model.specs.Mounts.{claimed_items, is_open, item_jobs, last_batch, mount_of};
 ghost use Rattle.part_values.specs.Mounts.{last_items};
-ghost use Rattle.part_answers.specs.Sessions.{claims_told};
+ghost use Rattle.entry_steps.specs.Sessions.{claims_told};
 ghost use Rattle.kept_state.specs.Contents.{AreInBuffer};
 
 use crate::state::KeptState;

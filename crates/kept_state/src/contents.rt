@@ -2,7 +2,7 @@
 ghost use Rattle.std.specs.Prelude.{◌≡◌, IfOk, Some, is_some, map, true};
 ghost use Rattle.cta_model.specs.declared.asks.Item.{Item};
 ghost use Rattle.cta_model.specs.Hands.{sum_of_blob};
-ghost use Rattle.hand_steps.specs.Contents.{content_of};
+ghost use Rattle.entry_steps.specs.Contents.{content_of};
 ghost use Rattle.kept_state.specs.Contents.{AreInBuffer};
 
 use crate::state::KeptState;

@@ -7,7 +7,7 @@ ghost use Rattle.cta_model.specs.Legal.{greatest_moment};
 ghost use Rattle.cta_model.specs.Localities.{locality_of};
 ghost use Rattle.cta_model.specs.Reports.{place_info};
 ghost use Rattle.cta_model.specs.Space.{evictable_size, evicted_for, free_space};
-ghost use Rattle.hand_steps.specs.Contents.{content_of};
+ghost use Rattle.entry_steps.specs.Contents.{content_of};
 
 use crate::state::KeptState;
 use blob::{Blob, Told};

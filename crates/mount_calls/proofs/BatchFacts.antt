@@ -29,8 +29,8 @@ use Rattle.cta_laws.proofs.KeyLaw.{OpenIsGood, open_good, same_mount, way_of}
 use Rattle.part_values.specs.declared.space.TapeRow.{TapeRow}
 use Rattle.part_values.specs.Queues.{Queues, lines_in}
 use Rattle.part_values.specs.Tapes.{row_in}
-use Rattle.queue_steps.specs.Lines.{line_of}
-use Rattle.book_steps.specs.Calls.{recalls_in}
+use Rattle.queue_laws.specs.Lines.{line_of}
+use Rattle.space_steps.specs.BookCalls.{recalls_in}
 use Rattle.kept_parts.specs.Kept.{ArePartsKept}
 use Rattle.kept_parts.specs.declared.parts.KeptParts.{KeptParts}
 use Rattle.mount_calls.proofs.Behind.{legal_behind}

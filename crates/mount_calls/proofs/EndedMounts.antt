@@ -24,10 +24,10 @@ use Rattle.part_values.specs.Counts.{Counts, count_in, ended_count}
 use Rattle.part_values.specs.JobRows.{book_in}
 use Rattle.part_values.specs.Mounts.{ended, row_of, set_down}
 use Rattle.part_values.specs.Room.{Roomed}
-use Rattle.mount_steps.specs.Mounts.{downs_behind}
-use Rattle.mount_steps.proofs.RowAnswers.{rows_tell_mounts}
+use Rattle.job_steps.specs.Mounts.{downs_behind}
+use Rattle.job_steps.proofs.RowAnswers.{rows_tell_mounts}
 use Rattle.open_mounts.specs.Table.{MountTable}
-use Rattle.recall_steps.specs.AllAsks.{end_of_mount}
+use Rattle.job_steps.specs.AllAsks.{end_of_mount}
 use Rattle.entry_steps.specs.AllParts.{TellSameJobs, jobs_in}
 use Rattle.kept_parts.specs.Called.{AreKeptCalled}
 use Rattle.kept_parts.specs.Kept.{ArePartsKept, values_of}

@@ -24,10 +24,10 @@ use Rattle.part_values.specs.Requests.{request_in, start_all}
 use Rattle.part_values.specs.Room.{Roomed}
 use Rattle.part_values.specs.Tapes.{HasTurned, Table, claimed_row}
 use Rattle.open_mounts.specs.Table.{MountTable}
-use Rattle.book_steps.specs.Calls.{recalls_in, waiters}
-use Rattle.space_calls.specs.Calls.{after_claim}
-use Rattle.table_calls.specs.Calls.{TurnedBy}
-use Rattle.recall_steps.specs.AllAsks.{claim_of_mount}
+use Rattle.space_steps.specs.BookCalls.{recalls_in, waiters}
+use Rattle.space_steps.specs.BufferCalls.{after_claim}
+use Rattle.space_steps.specs.TableCalls.{TurnedBy}
+use Rattle.job_steps.specs.AllAsks.{claim_of_mount}
 use Rattle.entry_steps.specs.AllParts.{TellSameJobs, jobs_in}
 use Rattle.kept_parts.specs.Called.{AreKeptCalled}
 use Rattle.kept_parts.specs.Kept.{ArePartsKept, values_of}

@@ -30,8 +30,8 @@ use Rattle.part_values.specs.Counts.{Counts, count_in, opened_count}
 use Rattle.part_values.specs.JobRows.{book_in}
 use Rattle.part_values.specs.Mounts.{has_mount, opened, row_of}
 use Rattle.part_values.specs.Room.{Roomed}
-use Rattle.mount_steps.specs.Mounts.{AreOpenMounts, new_row}
-use Rattle.mount_steps.proofs.RowAnswers.{rows_tell_mounts}
+use Rattle.job_steps.specs.Mounts.{AreOpenMounts, new_row}
+use Rattle.job_steps.proofs.RowAnswers.{rows_tell_mounts}
 use Rattle.open_mounts.specs.Table.{MountTable}
 use Rattle.kept_parts.specs.Called.{AreKeptCalled}
 use Rattle.kept_parts.specs.Kept.{ArePartsKept}

@@ -15,7 +15,7 @@ ghost use Rattle.part_values.specs.JobBook.{TellSame, claim_jobs};
 ghost use Rattle.part_values.specs.JobRows.{book_in};
 ghost use Rattle.part_values.specs.Queues.{lines_in, taken_out};
 ghost use Rattle.part_values.specs.Tapes.{row_in};
-ghost use Rattle.book_steps.specs.Calls.{recalls_in};
+ghost use Rattle.space_steps.specs.BookCalls.{recalls_in};
 ghost use Rattle.kept_parts.specs.Called.{AreKeptCalled};
 ghost use Rattle.kept_parts.specs.Kept.{ArePartsKept};
 

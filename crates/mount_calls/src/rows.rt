@@ -4,7 +4,7 @@ ghost use Rattle.cta_site.specs.declared.site.Site.{Site};
 ghost use Rattle.cta_model.specs.History.{History};
 ghost use Rattle.cta_model.specs.Mounts.{mount_of};
 ghost use Rattle.part_values.specs.Mounts.{has_mount};
-ghost use Rattle.mount_steps.specs.Mounts.{AreOpenMounts};
+ghost use Rattle.job_steps.specs.Mounts.{AreOpenMounts};
 
 use cta_model::Mount;
 use open_mounts::OpenMounts;

@@ -7,7 +7,7 @@ use Rattle.part_values.specs.JobRows.{no_rows}
 use Rattle.part_values.specs.Queues.{Queues}
 use Rattle.part_values.specs.Tapes.{Table}
 use Rattle.entry_steps.specs.AllParts.{AllParts}
-use Rattle.part_answers.specs.Choices.{choice_told, room_told}
+use Rattle.entry_steps.specs.Choices.{choice_told, room_told}
 
 -- all parts, where those that the choice does not read are empty: the table of tapes, the open mounts, the drives that are down, the counts of
 -- open mounts, the queues by pool and by tape, and a buffer of which so many bytes are free

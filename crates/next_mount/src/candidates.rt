@@ -1,7 +1,7 @@
 // The candidates of a drive, and their first.
 ghost use Rattle.std.specs.Prelude.{◌≡◌, ◌++◌, ◌<◌, ◌≤◌, length, option_to_list, IfOk, OnOk};
 ghost use Rattle.std.specs.List.{flat_map, range_with_len};
-ghost use Rattle.part_answers.specs.Choices.{candidate_told, candidate_with, candidates_told, choice_told, fits_told, lines_told, sums_told};
+ghost use Rattle.entry_steps.specs.Choices.{candidate_told, candidate_with, candidates_told, choice_told, fits_told, lines_told, sums_told};
 
 use crate::desk::Desk;
 use crate::tapes::tape_for;

@@ -4,7 +4,7 @@ ghost use Rattle.cta_model.specs.Choice.{all_tapes};
 ghost use Rattle.cta_model.specs.Tapes as states;
 ghost use Rattle.part_values.specs.Queues.{fits_in};
 ghost use Rattle.part_values.specs.Tapes.{row_in};
-ghost use Rattle.part_answers.specs.Choices.{may_read_told, may_write_told, tape_for_told, tape_of_pool_told};
+ghost use Rattle.entry_steps.specs.Choices.{may_read_told, may_write_told, tape_for_told, tape_of_pool_told};
 
 use crate::desk::Desk;
 use cta_model::{Direction, Sums};

@@ -1,7 +1,7 @@
 // Whether a queue is warranted, and whether its virtual organisation (VO) has quota left.
 ghost use Rattle.std.specs.Prelude.{◌≡◌, ◌+◌, ◌*◌, Some, nat_le};
 ghost use Rattle.cta_model.specs.Choice as said;
-ghost use Rattle.part_answers.specs.Choices.{quota_told};
+ghost use Rattle.entry_steps.specs.Choices.{quota_told};
 
 use crate::desk::Desk;
 use cta_model::{Direction, Sums};

@@ -6,3 +6,16 @@ pub mod Births
 pub mod Walks
 pub mod LastBirthsLaw
 pub mod CopyJobs
+pub mod SumsLaw
+pub mod QueueSteps
+pub mod PutSteps
+pub mod EndSteps
+pub mod FailSteps
+pub mod BirthSteps
+pub mod ReadSteps
+pub mod LineSteps
+pub mod FailedMembers
+pub mod Failures
+pub mod FailedLists
+pub mod Charged
+pub mod FailedSteps

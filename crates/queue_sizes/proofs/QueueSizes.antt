@@ -21,7 +21,7 @@ use Rattle.cta_laws.proofs.Sums.{IsDistinct, total, total_is}
 use Rattle.part_values.specs.declared.jobs.Line.{Line}
 use Rattle.part_values.specs.Order.{ComesBefore, InOrder, goes_before}
 use Rattle.queue_laws.proofs.Members.{queue_order}
-use Rattle.queue_steps.specs.Lines.{line_of}
+use Rattle.queue_laws.specs.Lines.{line_of}
 use Rattle.job_queues.specs.Waiting.{bytes_of}
 use Rattle.queue_sizes.specs.Laws.{AreSmall, LinesAreSmall, QueuesAreSmall}
 use Rattle.queue_sizes.proofs.Distinct.{few_below}

@@ -9,7 +9,7 @@ use Rattle.cta_model.specs.Files.{size_of}
 use Rattle.cta_model.specs.Queues.{queue_bytes, queue_of}
 use Rattle.cta_model.specs.Legal.{IsLegal}
 use Rattle.part_values.specs.Queues.{Lines}
-use Rattle.queue_steps.specs.Lines.{AreLines}
+use Rattle.queue_laws.specs.Lines.{AreLines}
 use Rattle.job_queues.specs.Waiting.{bytes_of}
 
 -- a path of a valid site has at most 4 copies

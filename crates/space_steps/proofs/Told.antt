@@ -27,7 +27,7 @@ use Rattle.part_values.specs.declared.space.HeldPin.{HeldPin}
 use Rattle.part_values.specs.Held.{Held, bytes_of, evictable_in, evicted_for as evicted_in, free_in, is_held, numbers, pinned_in, pins_in, prefix_of}
 use Rattle.space_steps.specs.Buffer.{resident_at}
 use Rattle.space_steps.specs.Held.{IsHeld}
-use Rattle.space_steps.specs.Laws.{BufferTells, BufferTellsFiles}
+use Rattle.space_steps.specs.SpaceLaws.{BufferTells, BufferTellsFiles}
 
 -- ---- the pins of the buffer, by owners
 

@@ -2,4 +2,14 @@ pub mod Names
 pub mod Tapes
 pub mod Buffer
 pub mod Held
-pub mod Laws
+pub mod SpaceLaws
+pub mod TableCalls
+pub mod TableLaws
+pub mod Books
+pub mod BookCalls
+pub mod BookLaws
+pub mod BufferCalls
+pub mod BufferLaws
+pub mod Parts
+pub mod Told
+pub mod PartLaws

@@ -2,7 +2,7 @@
 use Rattle.std.proofs.Common.{◌≡◌, take}
 use Rattle.cta_model.specs.declared.reports.ItemState.TheVariants as item
 use Rattle.part_values.specs.Repacks.{RepacksAgree, set_states}
-use Rattle.book_steps.specs.Calls.{writers}
+use Rattle.space_steps.specs.BookCalls.{writers}
 use Rattle.repack_book.specs.Kept.{NamesAgree, repacks_of}
 use Rattle.flush_calls.proofs.Unpinning.{AreLeft}
 use Rattle.flush_calls.proofs.copies.finish_copies.Given as goal

@@ -14,7 +14,7 @@ use Rattle.cta_model.specs.Legal.{new_entry}
 use Rattle.cta_model.specs.Mounts.{item_jobs, mount_of}
 use Rattle.cta_model.specs.Tapes.{size_of_items}
 use Rattle.part_values.specs.Tapes.{row_in}
-use Rattle.book_steps.specs.Calls.{recalls_in}
+use Rattle.space_steps.specs.BookCalls.{recalls_in}
 use Rattle.kept_parts.specs.Called.{AreKeptCalled}
 use Rattle.kept_parts.specs.Kept.{ArePartsKept}
 use Rattle.mount_calls.proofs.BatchFacts.{batch_fits, batch_is_short, batch_recalls, claim_answered, claim_is_fit, claim_mount, claim_opened, claim_tape, pool_low}

@@ -1,4 +1,4 @@
-use Rattle.part_answers.specs.Choices.{candidate_told}
+use Rattle.entry_steps.specs.Choices.{candidate_told}
 use Rattle.next_mount.proofs.Keys.{one_more}
 use Rattle.next_mount.proofs.candidates.add_candidates.Goals as goal
 

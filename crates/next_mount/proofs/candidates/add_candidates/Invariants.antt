@@ -1,7 +1,7 @@
 -- The candidates of the keys that the loop has passed were added.
 use Rattle.std.proofs.Common.{◌≡◌, ◌++◌}
 use Rattle.std.specs.List.{flat_map, range_with_len}
-use Rattle.part_answers.specs.Choices.{candidate_told}
+use Rattle.entry_steps.specs.Choices.{candidate_told}
 use Rattle.next_mount.proofs.candidates.add_candidates.Given as goal
 
 abbrev pub invariant-loop-key : goal.invariant-loop-key

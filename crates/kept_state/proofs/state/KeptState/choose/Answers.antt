@@ -1,6 +1,6 @@
 use Rattle.std.proofs.Common.{◌∙◌, ap}
 use Rattle.entry_steps.specs.AllParts.{AllParts}
-use Rattle.part_answers.specs.Choices.{choice_told}
+use Rattle.entry_steps.specs.Choices.{choice_told}
 use Rattle.kept_state.proofs.Now.{choice_now, room_low, told_ok}
 use Rattle.kept_state.proofs.state.KeptState.choose.Goals as goal
 

@@ -1,5 +1,5 @@
 use Rattle.std.proofs.Common.{◌∙◌}
-use Rattle.part_answers.proofs.ChoiceTold.{tells_mounts}
+use Rattle.entry_steps.proofs.ChoiceTold.{tells_mounts}
 use Rattle.kept_parts.specs.Kept.{values_of}
 use Rattle.kept_state.proofs.state.KeptState.is_busy.Goals as goal
 

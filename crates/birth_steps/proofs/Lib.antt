@@ -1,3 +1,0 @@
-pub mod StageParts
-pub mod RetryParts
-pub mod RepackParts

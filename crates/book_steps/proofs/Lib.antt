@@ -1,7 +1,0 @@
-pub mod Ended
-pub mod RequestTurns
-pub mod RequestCalls
-pub mod StageCalls
-pub mod RepackTurns
-pub mod RepackCalls
-pub mod SameBooks

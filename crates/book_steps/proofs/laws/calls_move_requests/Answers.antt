@@ -1,5 +1,0 @@
-use Rattle.book_steps.proofs.StageCalls as law
-use Rattle.book_steps.proofs.laws.calls_move_requests.Goals as goal
-
-pub returns : goal.returns
-returns c = law.calls_move_requests

@@ -1,3 +1,0 @@
-pub mod NextTape
-pub mod ShelfLaw
-pub mod ContentLaw

@@ -1,5 +1,0 @@
-use Rattle.hand_steps.proofs.ShelfLaw as law
-use Rattle.hand_steps.proofs.laws.end_brings_medium.Goals as goal
-
-pub returns : goal.returns
-returns c = law.end_brings_medium

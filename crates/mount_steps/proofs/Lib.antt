@@ -1,4 +1,0 @@
-pub mod CountSteps
-pub mod RowSteps
-pub mod RowAnswers
-pub mod DownSteps

@@ -1,7 +1,0 @@
-pub mod ChoiceTold
-pub mod PlaceTold
-pub mod BatchTold
-pub mod EndTold
-pub mod CopiesTold
-pub mod OperatorTold
-pub mod LookTold

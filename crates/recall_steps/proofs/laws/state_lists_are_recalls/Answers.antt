@@ -1,5 +1,0 @@
-use Rattle.recall_steps.proofs.StateLists as law
-use Rattle.recall_steps.proofs.laws.state_lists_are_recalls.Goals as goal
-
-pub returns : goal.returns
-returns c = law.state_lists

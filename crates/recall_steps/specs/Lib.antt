@@ -1,5 +1,0 @@
-pub mod Ends
-pub mod Parts
-pub mod StateLists
-pub mod Laws
-pub mod AllAsks

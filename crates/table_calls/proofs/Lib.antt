@@ -1,4 +1,0 @@
-pub mod Flushes
-pub mod TableTurns
-pub mod TableMoves
-pub mod Flags
