@@ -20,9 +20,9 @@ use Rattle.cta_model.specs.Files.{live_file, live_after, path_in, path_of, sum_i
 use Rattle.cta_model.specs.Buffer.{brings_in, evicts, arrival_of, last_arrival}
 use Rattle.cta_model.specs.Space.{file_brought, arrived_in, resident_files, size_of_files, free_space, evictable_size, evicted_for}
 use Rattle.cta_site.specs.Paths.{is_path}
-use Rattle.cta_model.specs.Answers.{refuse, answer_of, put_answer, is_accepted, is_built, is_too_heavy}
+use Rattle.cta_model.specs.Answers.{refuse, answer_of, put_answer, is_accepted, is_too_heavy}
 use Rattle.cta_model.specs.Legal.{IsLegal}
-use Rattle.cta_model.specs.Kept.{AreBuilt}
+use Rattle.served.specs.Served.{AreBuilt, is_built}
 use Rattle.archive.specs.Puts.{stored_bytes}
 use Rattle.archive.proofs.OnlyPuts.{evicted_for-built, bytes_to_read-built}
 

@@ -11,8 +11,7 @@ use Rattle.cta_model.specs.Mounts.{open_mounts, open_after}
 use Rattle.cta_model.specs.Places.{flushed_in, last_flushed, place_of, places_of, is_taped}
 use Rattle.cta_model.specs.Space.{may_be_evicted, evictable_files, evictable_size, evicted_for, prefix_of_size, resident_files, bytes_to_read, has_archive_job}
 use Rattle.cta_model.specs.Pins.{is_pinned}
-use Rattle.cta_model.specs.Answers.{is_built}
-use Rattle.cta_model.specs.Kept.{AreBuilt}
+use Rattle.served.specs.Served.{AreBuilt, is_built}
 
 -- ---- nothing is on tape
 

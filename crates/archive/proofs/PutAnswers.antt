@@ -18,9 +18,9 @@ use Rattle.cta_model.specs.declared.answers.Refusal.TheVariants as refusal
 use Rattle.cta_model.specs.History.{History, moment_of, weight_of}
 use Rattle.cta_model.specs.Files.{live_file}
 use Rattle.cta_site.specs.Paths.{is_path}
-use Rattle.cta_model.specs.Answers.{refuse, weighed, served_answer}
+use Rattle.cta_model.specs.Answers.{refuse, weighed}
 use Rattle.cta_model.specs.Legal.{IsLegal, new_entry, greatest_moment}
-use Rattle.cta_model.specs.Kept.{AreBuilt}
+use Rattle.served.specs.Served.{AreBuilt, served_answer}
 use Rattle.cta_model.proofs.Appends.{is_next}
 use Rattle.archive.specs.Puts.{first_refusal, put_refusal, stored_bytes, IsArchived}
 use Rattle.archive.proofs.OnlyPuts.{evicted_for-built, evictable_size-built}

@@ -8,7 +8,7 @@ use Rattle.cta_model.specs.History.{History}
 use Rattle.cta_model.specs.Files.{live_file, sum_in}
 use Rattle.cta_site.specs.Paths.{is_path}
 use Rattle.cta_model.specs.Legal.{IsLegal}
-use Rattle.cta_model.specs.Kept.{AreBuilt}
+use Rattle.served.specs.Served.{AreBuilt}
 
 -- the bytes of all files that were put
 abbrev pub stored_bytes : History → ℕ

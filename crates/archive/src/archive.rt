@@ -2,12 +2,11 @@
 ghost use Rattle.std.specs.Prelude.{◌≡◌, ◌≤◌, ◌<◌, ◌^◌, ◌+◌, [], ◌∷◌, length, IfOk, IfErr, OnErr, OnOk};
 ghost use Rattle.cta_site.specs.Listed.{rows};
 ghost use Rattle.cta_site.specs.ValidSite.{IsValidSite};
-ghost use Rattle.cta_model.specs.Answers.{served_answer};
-ghost use Rattle.cta_model.specs.Looks.{served_look};
+ghost use Rattle.served.specs.Served.{AreBuilt, served_answer, served_look};
 ghost use Rattle.cta_model.specs.Bare.{bare_answer, bare_ask, bare_entry};
 ghost use Rattle.cta_model.specs.Files.{sum_in};
 ghost use Rattle.cta_model.specs.History.{moment_of};
-ghost use Rattle.cta_model.specs.Kept.{kept_after, AreBuilt};
+ghost use Rattle.cta_model.specs.Kept.{kept_after};
 ghost use Rattle.cta_model.specs.Legal.{greatest_moment, IsLegal};
 ghost use Rattle.cta_model.specs.Newest.{history_in};
 ghost use Rattle.archive.specs.Puts.{first_refusal, put_refusal, IsArchived};

@@ -1,9 +1,9 @@
 // An archive that a hall keeps.
 ghost use Rattle.std.specs.Prelude.{◌≡◌, ◌≤◌, true, reverse, IfOk};
-ghost use Rattle.cta_model.specs.Answers.{is_accepted, is_built};
+ghost use Rattle.cta_model.specs.Answers.{is_accepted};
 ghost use Rattle.cta_model.specs.Bare.{bare_answer};
 ghost use Rattle.cta_model.specs.Legal.{greatest_moment};
-ghost use Rattle.cta_model.specs.Looks.{is_built_look};
+ghost use Rattle.served.specs.Served.{is_built, is_built_look};
 ghost use Rattle.archive_turns.specs.Topics.{topic_of};
 ghost use Rattle.archive_turns.specs.Plays.{call_adds, call_asks, Returns};
 ghost use Rattle.archive_hall.specs.InOrder.{IsLegalInOrder, CanPlayInOrder, IsFitInOrder, PlaysInOrder};

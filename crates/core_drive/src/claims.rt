@@ -1,19 +1,20 @@
 // Batches that are to be written.
-ghost use Rattle.std.specs.Prelude.{◌≡◌, ◌≤◌, IfOk, IfErr, OnErr};
+ghost use Rattle.std.specs.Prelude.{◌≡◌, ◌≤◌, IfOk, IfErr, OnErr, true};
 ghost use Rattle.cta_model.specs.declared.asks.Direction.TheVariants as direction;
 ghost use Rattle.cta_model.specs.Answers.{answer_of, is_accepted};
 ghost use Rattle.cta_model.specs.Bare.{bare_answer};
 ghost use Rattle.cta_model.specs.Hands.{HandBack};
 ghost use Rattle.cta_model.specs.Kept.{kept_after};
-ghost use Rattle.cta_model.specs.Legal.{IsMountOf, greatest_moment};
-ghost use Rattle.cta_model.specs.Mounts.{mount_of};
+ghost use Rattle.cta_model.specs.Legal.{IsMount, IsMountOf, greatest_moment};
+ghost use Rattle.cta_model.specs.Mounts.{is_open, mount_of};
 
 use blob::Told;
 use cta_model::{Answer, Ask, Hand, Refusal};
 use cta_site::NoMemory;
 use kept_state::KeptState;
 
-/// Answers the Claim of a mount that writes at this moment, in seconds since 1970, or at the last entry's where that is later.
+/// Answers the Claim of a mount that writes, or of one that is not open any more, whichever way it went, at this moment, in seconds since
+/// 1970, or at the last entry's where that is later.
 ///
 /// The answer is the sequential archive's on the history: Unknown where the mount is not open, Nothing where nothing that waits fits on
 /// its tape, and otherwise the refusal HistoryFull or the batch with its contents. A Claim that is accepted appends its one entry, and any
@@ -25,7 +26,8 @@ pub fn claim<M: Told + Drop>(
     mount: u32,
 ) -> Result<(Answer, Hand<M>), (NoMemory, Ask, Hand<M>)>
     requires at { at ≤ greatest_moment }
-    requires fit { IsMountOf direction.Archive (mount_of state.old.history mount) }
+    requires fit { IsMount (mount_of state.old.history mount) }
+    requires writes { is_open state.old.history mount ≡ true → IsMountOf direction.Archive (mount_of state.old.history mount) }
     ensures answer { IfOk result (λ r. bare_answer r.0 ≡ answer_of state.old.site state.old.history at (Ask.Claim mount)) }
     ensures kept { IfOk result (λ r. state.new ≡ kept_after state.old at (Ask.Claim mount) (bare_answer r.0)) }
     ensures hand { IfOk result (λ r. HandBack M.told (is_accepted (bare_answer r.0)) state.old.history state.new.history (Ask.Claim mount) (bare_answer r.0) Hand.Nothing r.1) }

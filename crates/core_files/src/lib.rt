@@ -7,5 +7,6 @@ mod puts;
 mod refusals;
 
 pub use deletes::delete;
+pub use kept_state::KeptState;
 pub use looks::{archive_info, fetch};
 pub use puts::put;

@@ -245,14 +245,3 @@ weighed site h k a = refuse refusal.HistoryFull (is_too_heavy site h k a) a
 -- the answer to an ask that is given this moment, on this history
 abbrev pub answer_of : Site → History → ℕ → Ask → Answer
 answer_of site h t k = weighed site h k (light_answer site h (moment_of h t) k)
-
--- ---- as far as built
-
--- the asks that are served
-abbrev pub is_built : Ask → Bool
-is_built (ask.Put who path sum) = true
-is_built _ = false
-
--- what is served: the answer of the sequential archive where the ask is built, and otherwise the refusal NotBuilt, before every other
-abbrev pub served_answer : Site → History → ℕ → Ask → Answer
-served_answer site h t k = refuse refusal.NotBuilt (not (is_built k)) (answer_of site h t k)

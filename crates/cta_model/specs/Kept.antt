@@ -1,12 +1,11 @@
 -- What an archive keeps, as contracts see it.
-use Rattle.std.specs.Prelude.{ℕ, List, [], ◌∷◌, ◌≡◌, ◌≤◌, true, if◌then◌else◌}
-use Rattle.std.specs.List.{AllByRecursion}
+use Rattle.std.specs.Prelude.{ℕ, List, [], ◌∷◌, ◌≤◌, if◌then◌else◌}
 use Rattle.cta_site.specs.declared.site.Site.{Site}
 use Rattle.cta_model.specs.declared.entries.Entry.{Entry}
 use Rattle.cta_model.specs.declared.asks.Ask.{Ask}
 use Rattle.cta_model.specs.declared.answers.Answer.{Answer}
 use Rattle.cta_model.specs.History.{History}
-use Rattle.cta_model.specs.Answers.{answer_of, is_accepted, is_built}
+use Rattle.cta_model.specs.Answers.{answer_of, is_accepted}
 use Rattle.cta_model.specs.Legal.{IsFit, IsLegal, greatest_moment, new_entry}
 
 -- a site and a history
@@ -17,10 +16,6 @@ pub record Kept : Type 0 where
 -- what is kept after an ask that got this answer: one entry more exactly where it was accepted
 abbrev pub kept_after : Kept → ℕ → Ask → Answer → Kept
 kept_after kept t k a = if is_accepted a then record kept { history = new_entry kept.history t k a ∷ kept.history } else kept
-
--- each ask of the history is one that is served
-abbrev pub AreBuilt : History → Type 0
-AreBuilt h = AllByRecursion (λ (e : Entry). is_built e.ask ≡ true) h
 
 -- the history after an ask of the sequential archive
 abbrev pub history_after : Site → History → ℕ → Ask → History

@@ -1,5 +1,5 @@
 -- The sequential archive: what each look is answered. A look changes nothing.
-use Rattle.std.specs.Prelude.{ℕ, length, Option, Some, None, Bool, true, false, not, nat_le}
+use Rattle.std.specs.Prelude.{ℕ, length, Option, Some, None, not, nat_le}
 use Rattle.cta_site.specs.declared.site.Site.{Site}
 use Rattle.cta_site.specs.Listed.{rows}
 use Rattle.cta_model.specs.declared.asks.Look.{Look}
@@ -43,12 +43,3 @@ look_answer_of site h t (look.RepackInfo id) = repack_info_by site h id (repack_
 look_answer_of site h t look.FailedList = answer.FailedSeen (rows (failed_copies site h))
 look_answer_of site h t (look.TapeInfo v) = tape_info_answer site h v
 look_answer_of site h t look.Queues = answer.QueuesSeen (rows (queue_reports site h))
-
--- the looks that are served
-abbrev pub is_built_look : Look → Bool
-is_built_look (look.ArchiveInfo paths) = true
-is_built_look _ = false
-
--- what is served: the answer of the sequential archive where the look is built, and otherwise the refusal NotBuilt, before every other
-abbrev pub served_look : Site → History → ℕ → Look → Answer
-served_look site h t k = refuse refusal.NotBuilt (not (is_built_look k)) (look_answer_of site h t k)

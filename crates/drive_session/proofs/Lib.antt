@@ -2,6 +2,8 @@ pub mod Lists
 pub mod Tapes
 pub mod Resolving
 pub mod Lawful
+pub mod Table
+pub mod Phases
 pub mod Steps
 pub mod Recalls
 pub mod Works

@@ -37,10 +37,12 @@ use Rattle.drive_session.specs.Fits.{IsReading, IsResolving, FitsState, FitsOpen
 use Rattle.drive_session.specs.Lawful.{Again, Follows, IsSaid, fseqs, reading_of}
 use Rattle.drive_session.specs.Records.{AreOfFiles, AreSafe}
 use Rattle.drive_session.specs.Steps.{AreSameIf, FitsSome, HasDone, HasGiven, IsAskedAfter, IsChargedFor, IsStep, LeadsOn, NoMismatch, read_charges}
+use Rattle.drive_session.specs.Table.{Reading, heard, held_mount, read_row, says, unread_row}
 use Rattle.drive_session.proofs.Lawful.{claim_leads, rest_standing}
 use Rattle.drive_session.proofs.Lists.{drop_none, drop_some, one_map, pair_same}
 use Rattle.drive_session.proofs.Resolving.{same_self, same_sym}
 use Rattle.drive_session.proofs.Steps.{after, goes_way}
+use Rattle.drive_session.proofs.Table.{read_failed_row, read_out_row, read_there}
 use Rattle.drive_session.proofs.Tapes.{honest_read, may_read}
 
 -- a mount with nothing left to read claims nothing
@@ -140,6 +142,7 @@ rest_step told d x items at old s none some loaded is =
       read = (subst (λ o. HasGiven told x old o None) (sym none) tt, λ h t. tt);
       loaded = loaded;
       waits = refl;
+      table = read_out_row (held_mount x) items.items at none;
       asked = refl;
       charged = tt;
       safe = tt;
@@ -170,14 +173,16 @@ read_waits told d x m items at same site h fits =
 -- the step of a read that wanted memory
 pub waiting_step : {M : Type 0} (told : M → Option TapeRecords) (d : ℕ) (x : Mounted M) (m : M) (items : Listed Item) (at : ℕ) (i : Item) (e : Option Done) (old new : DriveView) (s : Step M)
     → slice_get items.items at ≡ Some i → told m ≡ told x.medium → HasDone old new e → new.loaded ≡ true → HasGiven told x old (Some i) e → NoMismatch e
+    → read_row (held_mount x) items.items at i (heard (asked.Nothing line.Memory) e) ≡ says line.Memory (Reading (held_mount x) items.items at)
     → s ≡ record { state = state.Reading (after x m) items at; asked = asked.Nothing line.Memory; report = record { device = e; ask = None } } → IsStep told d (state.Reading x items at) old new s
-waiting_step told d x m items at i e old new s there same device loaded given none is =
+waiting_step told d x m items at i e old new s there same device loaded given none row is =
     subst (λ s. IsStep told d (state.Reading x items at) old new s) (sym is)
     (record {
       device = device;
       read = (given_same told x old (slice_get items.items at) i e there given, λ h t. none);
       loaded = loaded;
       waits = refl;
+      table = read_there (held_mount x) items.items at i _ there ∙ row;
       asked = tt;
       charged = tt;
       safe = tt;
@@ -193,21 +198,23 @@ pub failed_step : {M : Type 0} (told : M → Option TapeRecords) (d : ℕ) (x : 
     → ((h : History) → IsMountOf direction.Retrieve (mount_of h x.mount) → IsFaultOf f (mount_of h x.mount))
     → ((charged returned : Listed Job) → IsAskedAfter {M = M} (Some (ask.Failed x.mount f charged returned, hand.Nothing)) (Some out))
     → read_charges (item_jobs items.items) at f ≡ Some (i.job ∷ [], [])
+    → read_row (held_mount x) items.items at i (Some out) ≡ unread_row (held_mount x) items.items at i f o
     → Follows (reading_of (fseqs (drop at items.items))) (line_of o) (reading_of (fseqs (drop (at + 1) items.items))) → IsSaid (line_of o) (Some out)
     → IsChargedFor (after x m) items (at + 1) jobs f out o s
     → IsStep told d (state.Reading x items at) old new s
-failed_step told d x m items at i f out o jobs old new s there same ej device loaded given honest cause after_it charges follows says is =
+failed_step told d x m items at i f out o jobs old new s there same ej device loaded given honest cause after_it charges row follows told_so is =
     subst (λ s. IsStep told d (state.Reading x items at) old new s) (sym is.1.1.2)
     (record {
       device = device;
       read = (given_same told x old (slice_get items.items at) i (Some out) there given, honest);
       loaded = loaded;
       waits = refl;
+      table = read_there (held_mount x) items.items at i (Some out) there ∙ row ∙ read_failed_row (held_mount x) items.items at i f o jobs is.0.items is.1.0.items ej is.1.1.0 is.1.1.1;
       asked = after_it is.0 is.1.0;
       charged = charges ∙ pair_same _ _ _ _ (sym ej ∙ sym is.1.1.0) (sym is.1.1.1);
       safe = tt;
       kept = tt;
-      lawful = λ a k. (follows, says);
+      lawful = λ a k. (follows, told_so);
       fits = λ site h fits. (let r : IsReading told h d x (drop at items.items) = fits.state in record {
         known = fits.known;
         asked = record {

@@ -1,5 +1,5 @@
 -- The rows of the table of a session, closed: two items on one tape, written by mount 2 and read by mount 3.
-use Rattle.std.specs.Prelude.{◌≡◌, [], ◌∷◌, Some, true, false}
+use Rattle.std.specs.Prelude.{◌≡◌, ℕ, [], ◌∷◌, Some, None, true, false}
 use Rattle.std.specs.declared.alloc.Global.{Global}
 use Rattle.std.specs.declared.sync.Arc.{Arc}
 use Rattle.blob.specs.declared.blobs.Blob.{Blob}
@@ -7,12 +7,15 @@ use Rattle.blob.specs.declared.sum.Sum256.{Sum256}
 use Rattle.cta_site.specs.Listed.{Listed, rows}
 use Rattle.cta_model.specs.declared.answers.Answer.TheVariants as answer
 use Rattle.cta_model.specs.declared.answers.Refusal.TheVariants as refusal
+use Rattle.cta_model.specs.declared.asks.Ask.TheVariants as ask
 use Rattle.cta_model.specs.declared.asks.Direction.TheVariants as direction
 use Rattle.cta_model.specs.declared.asks.Fate.TheVariants as fate
 use Rattle.cta_model.specs.declared.asks.Fault.TheVariants as fault
 use Rattle.cta_model.specs.declared.asks.Item.{Item}
 use Rattle.cta_model.specs.declared.asks.Job.{Job}
 use Rattle.cta_model.specs.declared.hands.Hand.TheVariants as hand
+use Rattle.drive_session.specs.declared.reports.Call.TheVariants as call
+use Rattle.drive_session.specs.declared.reports.Done.TheVariants as done
 use Rattle.drive_session.specs.declared.reports.ReadEnd.TheVariants as end
 use Rattle.drive_session.specs.declared.reports.StepLine.TheVariants as line
 use Rattle.drive_session.specs.declared.states.Asked.TheVariants as asked
@@ -22,6 +25,8 @@ use Rattle.drive_session.specs.declared.states.State.TheVariants as state
 use Rattle.drive_session.specs.Answers.{line_after, line_of, state_after}
 use Rattle.drive_session.specs.Lawful.{Flushing, Follows, Free, Held, Leaving, Reading, Ready, Writing, standing_of}
 use Rattle.drive_session.specs.Steps.{charges_in}
+use Rattle.drive_session.specs.Table.{HeldMount, asks, row_of, says}
+use Rattle.drive_session.specs.Table as phase
 
 -- the jobs of two files
 abbrev pub job_a : Job
@@ -91,6 +96,48 @@ pub record ReadingRows {M : Type 0} (m : M) (s found : Sum256) : Type 0 where
   pub goes_on : Follows (Reading (1 ∷ 2 ∷ [])) (line.Read 1 end.Failed) (Reading (2 ∷ []))
   pub last : Follows (Reading (2 ∷ [])) (line.Read 2 end.Done) (Ready direction.Retrieve)
 
+-- the mounts without their media
+abbrev pub writing_alone : HeldMount
+writing_alone = record { mount = 2; direction = direction.Archive; tape = 0 }
+
+abbrev pub reading_alone : HeldMount
+reading_alone = record { mount = 3; direction = direction.Retrieve; tape = 0 }
+
+-- the phases of a batch that is written and of one that is read, by how many items are done
+abbrev pub writing_at : Sum256 → ℕ → phase.Phase
+writing_at s n = phase.Writing writing_alone (two_items s).items n
+
+abbrev pub reading_at : Sum256 → ℕ → phase.Phase
+reading_at s n = phase.Reading reading_alone (two_items s).items n
+
+-- what a step of drive 7 asks without a batch
+pub record AskRows : Type 0 where
+  pub next : row_of 7 phase.Free None ≡ asks (ask.Next 7) asked.Next phase.Free
+  pub no_call : row_of 7 phase.Free (Some (done.Ok call.Load)) ≡ None
+  pub load_ok : row_of 7 (phase.Held writing_alone) (Some (done.Ok call.Load)) ≡ says (line.Load true) (phase.Ready writing_alone)
+  pub load_failed : row_of 7 (phase.Held writing_alone) (Some (done.Fault call.Load)) ≡ asks (ask.End 2 (Some fault.Load)) (asked.Known outcome.Load) phase.Free
+  pub claim : row_of 7 (phase.Ready writing_alone) None ≡ asks (ask.Claim 2) asked.Claim (phase.Ready writing_alone)
+  pub unload_ok : row_of 7 (phase.Leaving writing_alone) (Some (done.Ok call.Unload)) ≡ asks (ask.End 2 None) (asked.Known (outcome.Unload true)) phase.Free
+  pub unload_failed : row_of 7 (phase.Leaving writing_alone) (Some (done.Fault call.Unload)) ≡ asks (ask.End 2 (Some fault.Unload)) (asked.Known (outcome.Unload false)) phase.Free
+
+-- what a step asks of a batch that is written
+pub record WriteRows (s : Sum256) : Type 0 where
+  pub write_ok : row_of 7 (writing_at s 0) (Some (done.Ok (call.Write 1))) ≡ says (line.Write 1 true) (writing_at s 1)
+  pub other_place : row_of 7 (writing_at s 0) (Some (done.Ok (call.Write 2))) ≡ None
+  pub first_failed : row_of 7 (writing_at s 0) (Some (done.Fault (call.Write 1))) ≡ asks (ask.Failed 2 fault.Write (rows (job_a ∷ [])) (rows (job_b ∷ []))) (asked.Known (outcome.Write 1)) (phase.Leaving writing_alone)
+  pub last_failed : row_of 7 (writing_at s 1) (Some (done.Fault (call.Write 2))) ≡ asks (ask.Failed 2 fault.Write (rows (job_b ∷ [])) (rows (job_a ∷ []))) (asked.Known (outcome.Write 2)) (phase.Leaving writing_alone)
+  pub wants : row_of 7 (writing_at s 1) (Some (done.NoMemory (call.Write 2))) ≡ says line.Memory (writing_at s 1)
+  pub flush_ok : row_of 7 (writing_at s 2) (Some (done.Ok call.Flush)) ≡ asks (ask.Flushed 2 (two_items s)) asked.Flushed (phase.Ready writing_alone)
+  pub flush_failed : row_of 7 (writing_at s 2) (Some (done.Fault call.Flush)) ≡ asks (ask.Failed 2 fault.Flush (rows (job_a ∷ job_b ∷ [])) (rows [])) (asked.Known outcome.Flush) (phase.Leaving writing_alone)
+
+-- what a step asks of a batch that is read
+pub record ReadRows (s found : Sum256) : Type 0 where
+  pub read_ok : row_of 7 (reading_at s 0) (Some (done.Ok (call.Read 1))) ≡ asks (ask.Recalled 3 job_a) (asked.Recalled 1) (reading_at s 1)
+  pub read_failed : row_of 7 (reading_at s 0) (Some (done.Fault (call.Read 1))) ≡ asks (ask.Failed 3 fault.Read (rows (job_a ∷ [])) (rows [])) (asked.Known (outcome.Read 1)) (reading_at s 1)
+  pub mismatch : row_of 7 (reading_at s 1) (Some (done.Mismatch found s)) ≡ asks (ask.Failed 3 (fault.Mismatch found s) (rows (job_b ∷ [])) (rows [])) (asked.Known (outcome.Mismatch 2)) (reading_at s 2)
+  pub wants : row_of 7 (reading_at s 1) None ≡ says line.Memory (reading_at s 1)
+  pub all_read : row_of 7 (reading_at s 2) None ≡ asks (ask.Claim 3) asked.Claim (phase.Ready reading_alone)
+
 -- all rows
 pub record TableRows {M : Type 0} (m : M) (s found : Sum256) (blobs : Listed (Arc Blob Global)) : Type 0 where
   pub free : FreeRows m
@@ -98,3 +145,6 @@ pub record TableRows {M : Type 0} (m : M) (s found : Sum256) (blobs : Listed (Ar
   pub ready : ReadyRows m s blobs
   pub writing : WritingRows m s blobs
   pub reading : ReadingRows m s found
+  pub call_asks : AskRows
+  pub write_asks : WriteRows s
+  pub read_asks : ReadRows s found

@@ -1,5 +1,5 @@
 -- What one step of a session keeps.
-use Rattle.std.specs.Prelude.{ℕ, ◌+◌, ◌≡◌, ◌≢◌, ◌<◌, ⊤, length, List, [], ◌++◌, take, drop, slice_get, Option, Some, None, IfSome, IsSome, Ok, Bool, true, false}
+use Rattle.std.specs.Prelude.{ℕ, ◌≡◌, ◌≢◌, ◌<◌, ⊤, length, List, [], take, drop, slice_get, Option, Some, None, IfSome, IsSome, Ok, Bool, true, false}
 use Rattle.blob.specs.declared.sum.Sum256.{Sum256}
 use Rattle.blob.specs.Records.{TapeRecords}
 use Rattle.blob.specs.Sums.{sum_of}
@@ -38,6 +38,7 @@ use Rattle.drive_session.specs.Answers.{is_asking, line_after, state_after}
 use Rattle.drive_session.specs.Fits.{FitsOpen, FitsState}
 use Rattle.drive_session.specs.Lawful.{Follows, IsSaid, Standing, standing_of}
 use Rattle.drive_session.specs.Records.{AreSafe}
+use Rattle.drive_session.specs.Table.{heard, others_at, phase_of, row_by, row_of}
 
 -- ---- the device
 
@@ -114,10 +115,6 @@ IsAskedAfter _ e = ⊥
 -- the job at a place alone, none where there is no such place
 abbrev pub one_at : List Job → ℕ → List Job
 one_at jobs n = take 1 (drop n jobs)
-
--- the jobs but the one at a place
-abbrev pub others_at : List Job → ℕ → List Job
-others_at jobs n = take n jobs ++ drop (n + 1) jobs
 
 -- the jobs that a fault charges, and those that it returns: a write charges the item that failed and returns all others of the batch, a flush charges all
 abbrev pub batch_charges : List Job → ℕ → Fault → Option (List Job × List Job)
@@ -210,6 +207,7 @@ pub record IsStep {M : Type 0} (told : M → Option TapeRecords) (d : ℕ) (befo
   pub read : IsReadTruly told old before s.report.device
   pub loaded : new.loaded ≡ is_loaded_in s.state
   pub waits : is_asking s.asked ≡ has_ask s.report.ask
+  pub table : row_of d (phase_of before) (heard s.asked s.report.device) ≡ Some (row_by s)
   pub asked : IsAskedAfter s.report.ask s.report.device
   pub charged : IsCharged before s.report.ask
   pub safe : IsFlushedSafe told s.state s.report.ask

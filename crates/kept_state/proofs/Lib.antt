@@ -5,3 +5,4 @@ pub mod Moves
 pub mod Mounted
 pub mod Claimed
 pub mod Batched
+pub mod Reported

@@ -7,9 +7,10 @@ use Rattle.cta_site.specs.declared.site.Site.{Site}
 use Rattle.cta_model.specs.History.{History}
 use Rattle.cta_model.specs.Kept.{Kept, KeepsLegal, kept_after, history_after}
 use Rattle.cta_model.specs.Legal.{IsLegal, greatest_moment}
-use Rattle.cta_model.specs.Answers.{answer_of, served_answer, is_accepted}
+use Rattle.cta_model.specs.Answers.{answer_of, is_accepted}
 use Rattle.cta_model.specs.declared.asks.Ask.{Ask}
 use Rattle.cta_model.specs.declared.asks.Ask.TheVariants as ask
+use Rattle.served.specs.Served.{served_answer}
 use Rattle.conn.specs.Cut.{Event, Continues, Requests, Refuses}
 use Rattle.tape_routes.specs.Asked.{Asked, Asks, Looks, Replies, asked}
 use Rattle.tape_routes.specs.Answering.{kept_then, request_keeps}

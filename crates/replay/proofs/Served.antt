@@ -8,8 +8,8 @@ use Rattle.cta_site.specs.Listed.{rows}
 use Rattle.cta_model.specs.History.{History, moment_of}
 use Rattle.cta_model.specs.Files.{live_file}
 use Rattle.cta_model.specs.Space.{free_space, evictable_size, evicted_for}
-use Rattle.cta_model.specs.Answers.{refuse, is_too_heavy, served_answer}
-use Rattle.cta_model.specs.Looks.{served_look}
+use Rattle.cta_model.specs.Answers.{refuse, is_too_heavy}
+use Rattle.served.specs.Served.{served_answer, served_look}
 use Rattle.cta_model.specs.Bare.{bare_ask, bare_look, bare_answer, bare_copy}
 use Rattle.cta_model.specs.declared.asks.Ask.{Ask}
 use Rattle.cta_model.specs.declared.asks.Ask.TheVariants as ask

@@ -4,3 +4,4 @@ pub mod Answered
 pub mod Sources
 pub mod Claimed
 pub mod Behind
+pub mod Goes

@@ -18,6 +18,7 @@ use Rattle.drive_session.specs.declared.states.State.{State}
 use Rattle.drive_session.specs.declared.states.State.TheVariants as state
 use Rattle.drive_session.specs.Answers.{state_after}
 use Rattle.drive_session.specs.Fits.{FitsOpen, FitsState}
+use Rattle.drive_session.specs.Table.{GoesWith}
 
 -- no entry is about the mount of a state, if it has one
 abbrev pub AreOthers : {M : Type 0} → State M → History → Type 0
@@ -65,3 +66,9 @@ AnsweredSessionFits {M = M} told =
     (site : Site) (h : History) (t d : ℕ) (s : State M) (w : Asked) (a : Ask) (k out : Hand M) → IsLegal site h → t ≤ greatest_moment → FitsOpen told site h d s w a k
     → HandBack told (is_accepted (answer_of site h t a)) h (history_after site h t a) a (answer_of site h t a) k out
     → FitsState told site (history_after site h t a) d (state_after w s (answer_of site h t a) out)
+
+-- what comes back from an ask of a session that fits goes with the answer of the sequential archive, so that the phase of the session tells where it leads
+abbrev pub AnswersComeWithHands : {M : Type 0} → (M → Option TapeRecords) → Type 0
+AnswersComeWithHands {M = M} told =
+    (site : Site) (h : History) (t d : ℕ) (s : State M) (w : Asked) (a : Ask) (k out : Hand M) → FitsOpen told site h d s w a k
+    → HandBack told (is_accepted (answer_of site h t a)) h (history_after site h t a) a (answer_of site h t a) k out → GoesWith w s (answer_of site h t a) out

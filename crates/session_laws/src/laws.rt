@@ -1,5 +1,5 @@
 // Laws of sessions.
-ghost use Rattle.session_laws.specs.Laws.{AnsweredSessionFits, AskingSessionStays, AsksAreFit, AsksAreKnown, SessionStays};
+ghost use Rattle.session_laws.specs.Laws.{AnsweredSessionFits, AnswersComeWithHands, AskingSessionStays, AsksAreFit, AsksAreKnown, SessionStays};
 
 use media::TapeDrive;
 
@@ -29,4 +29,10 @@ pub fn asks_are_known<D: TapeDrive>()
 /// added. This project's own.
 pub fn answered_session_fits<D: TapeDrive>()
     ensures { AnsweredSessionFits D.Medium.told }
+{}
+
+/// What comes back from an ask of a session that fits goes with the answer of the sequential archive, so that the phase of the
+/// session tells where the answer leads. This project's own.
+pub fn answers_come_with_hands<D: TapeDrive>()
+    ensures { AnswersComeWithHands D.Medium.told }
 {}

@@ -5,5 +5,6 @@
 mod laws;
 
 pub use laws::{
-    answered_session_fits, asking_session_stays, asks_are_fit, asks_are_known, session_stays,
+    answered_session_fits, answers_come_with_hands, asking_session_stays, asks_are_fit,
+    asks_are_known, session_stays,
 };

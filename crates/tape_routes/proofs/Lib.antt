@@ -1,3 +1,4 @@
+pub mod CallersLaw
 pub mod Choices
 pub mod Walks
 pub mod Patterns

@@ -3,8 +3,7 @@ use Rattle.std.specs.Prelude.{◌≡◌, ℕ, List, [], Bool, Option, Some, None
 use Rattle.blob.specs.Sums.{sum_of}
 use Rattle.blob.specs.declared.sum.Sum256.{Sum256}
 use Rattle.cta_site.specs.declared.site.Site.{Site}
-use Rattle.cta_model.specs.Answers.{served_answer}
-use Rattle.cta_model.specs.Looks.{served_look}
+use Rattle.served.specs.Served.{served_answer, served_look}
 use Rattle.cta_model.specs.Kept.{Kept, kept_after}
 use Rattle.cta_model.specs.declared.answers.Answer.{Answer}
 use Rattle.cta_model.specs.declared.answers.Answer.TheVariants as answer

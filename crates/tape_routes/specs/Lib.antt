@@ -3,5 +3,6 @@ pub mod Router
 pub mod Parameters
 pub mod Fixed
 pub mod Asked
+pub mod Callers
 pub mod Replies
 pub mod Answering

@@ -17,7 +17,7 @@ mod routing;
 mod statuses;
 mod well_known;
 
-pub use laws::replies_carry_their_content;
+pub use laws::{callers_ask, replies_carry_their_content};
 pub use replies::reply_of;
 pub use routed::Routed;
 pub use router::Routes;

@@ -8,6 +8,7 @@ returns-clause-step g c = record {
   read = tt;
   loaded = c.requires.loaded;
   waits = refl;
+  table = refl;
   asked = refl;
   charged = tt;
   safe = tt;

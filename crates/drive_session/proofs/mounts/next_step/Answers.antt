@@ -8,6 +8,7 @@ returns g c = record {
   read = tt;
   loaded = c.requires;
   waits = refl;
+  table = refl;
   asked = refl;
   charged = tt;
   safe = tt;

@@ -1,7 +1,9 @@
 use Rattle.std.proofs.Common.{refl, ◌∙◌, ap}
 use Rattle.cta_model.specs.Mounts.{item_jobs}
 use Rattle.drive_session.specs.Lawful.{Again}
+use Rattle.drive_session.specs.Table.{held_mount}
 use Rattle.drive_session.proofs.Steps.{begin_fits, begun_before}
+use Rattle.drive_session.proofs.Table.{unbegun_row}
 use Rattle.drive_session.proofs.writing.begin_step.Goals as goal
 
 pub write_step-requires-clause-fits : goal.write_step-requires-clause-fits
@@ -15,6 +17,7 @@ returns-in-Ok g c =
       read = w.read;
       loaded = w.loaded;
       waits = w.waits;
+      table = w.table;
       asked = w.asked;
       charged = w.charged;
       safe = w.safe;
@@ -29,6 +32,7 @@ returns-in-Err g c = record {
   read = tt;
   loaded = c.requires.loaded;
   waits = refl;
+  table = unbegun_row (held_mount c.args.x) c.args.items.items c.requires.fits.1.1.state.some;
   asked = tt;
   charged = tt;
   safe = tt;

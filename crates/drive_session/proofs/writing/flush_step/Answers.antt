@@ -1,6 +1,8 @@
 use Rattle.std.proofs.Common.{refl, ◌∙◌}
+use Rattle.drive_session.specs.Table.{held_mount}
 use Rattle.drive_session.proofs.Lawful.{flush_leads, flush_fails}
 use Rattle.drive_session.proofs.Steps.{after, flush_fits, flush_safe, flush_charges, flush_fault_fits, only_fault, loaded_flush, flush_records, answered_by}
+use Rattle.drive_session.proofs.Table.{flush_failed_row, flushed_row}
 use Rattle.drive_session.proofs.writing.flush_step.Goals as goal
 
 pub returns-in-Ok : goal.returns-in-Ok
@@ -9,6 +11,7 @@ returns-in-Ok g c = record {
   read = tt;
   loaded = c.in-Ok.ensures.drive.loaded ∙ c.requires.loaded;
   waits = refl;
+  table = flushed_row (held_mount c.args.x) c.args.b.items.items c.args.b.at c.requires.all;
   asked = refl;
   charged = tt;
   safe = flush_safe g.D.Medium.Told.told c.args.number c.args.x c.args.b c.flush.new.medium c.requires.all c.in-Ok.ensures.records c.requires.fits;
@@ -20,14 +23,16 @@ returns-in-Ok g c = record {
 pub returns-in-Err : goal.returns-in-Err
 returns-in-Err g c =
     let fault = only_fault c.flush.result c.in-Err.field-0 c.in-Err.is c.flush.ensures.memory in
+    let charges = flush_charges g.D.Medium.Told.told c.args.number c.args.x c.args.b c.of-charged.result c.of-returned.result c.of-charged.ensures.items (c.of-returned.ensures.items ∙ c.clear.ensures.items) c.requires.fits in
     rw c.leaving.ensures
     (record {
       device = answered_by _ _ _ _ _ fault c.flush.ensures.drive;
       read = tt;
       loaded = loaded_flush _ _ _ c.flush.ensures.drive c.requires.loaded;
       waits = refl;
+      table = flush_failed_row (held_mount c.args.x) c.args.b.items.items c.args.b.at _ _ c.requires.all charges;
       asked = refl;
-      charged = flush_charges g.D.Medium.Told.told c.args.number c.args.x c.args.b c.of-charged.result c.of-returned.result c.of-charged.ensures.items (c.of-returned.ensures.items ∙ c.clear.ensures.items) c.requires.fits;
+      charged = charges;
       safe = tt;
       kept = tt;
       lawful = λ a k. (flush_fails c.args.b.items.items c.args.b.at c.requires.all, refl);

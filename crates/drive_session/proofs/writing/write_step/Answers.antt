@@ -6,8 +6,10 @@ use Rattle.media.specs.Drives.{error_of}
 use Rattle.media.specs.declared.drive.DeviceErr.TheVariants as err
 use Rattle.drive_session.proofs.Lawful.{write_follows, write_fails}
 use Rattle.drive_session.specs.Lawful.{Again}
+use Rattle.drive_session.specs.Table.{held_mount}
 use Rattle.drive_session.proofs.Tapes.{may_write}
 use Rattle.drive_session.proofs.Steps.{write_fits, write_charges, write_fault_fits, write_waits, loaded_write, write_records, parted_of, fault_left, memory_left, answered_by}
+use Rattle.drive_session.proofs.Table.{unwritten_row, write_failed_row, written_row}
 use Rattle.drive_session.proofs.writing.write_step.Goals as goal
 
 pub write-answer-requires-clause-place : goal.write-answer-requires-clause-place
@@ -24,6 +26,7 @@ returns-in-Ok g c =
       read = tt;
       loaded = c.in-Ok.ensures.drive.loaded ∙ c.requires.loaded;
       waits = refl;
+      table = written_row (held_mount c.args.x) c.args.b.items.items c.args.b.at c.in-Some.item there;
       asked = tt;
       charged = tt;
       safe = tt;
@@ -44,6 +47,7 @@ returns-then-is_no_memory g c =
       read = tt;
       loaded = answered.loaded ∙ c.requires.loaded;
       waits = refl;
+      table = unwritten_row (held_mount c.args.x) c.args.b.items.items c.args.b.at c.in-Some.item there;
       asked = tt;
       charged = tt;
       safe = tt;
@@ -56,14 +60,16 @@ pub returns-else-is_no_memory : goal.returns-else-is_no_memory
 returns-else-is_no_memory g c =
     let there : slice_get c.args.b.items.items c.args.b.at ≡ Some c.in-Some.item = ap (λ xs. slice_get xs c.args.b.at) (sym c.as_slice.ensures) ∙ sym c.item_at.ensures.item ∙ c.in-Some.is in
     let fault : error_of c.write-answer.result ≡ Some err.Fault = ap error_of c.in-Err.is ∙ ap Some (fault_left c.in-Err.error c.is_no_memory.result c.is_no_memory.ensures c.if-is_no_memory.false) in
+    let charges = write_charges g.D.Medium.Told.told c.args.number c.args.x c.args.b c.in-Some.item (record { birth = 0; file = 0; copy = 0 }) c.parted-charged.result.0 c.parted-charged.result.1 there c.parted-charged.ensures.charged c.parted-charged.ensures.returned c.requires.fits in
     rw c.leaving.ensures
     (record {
       device = answered_by _ _ _ _ _ fault c.write-answer.ensures.drive;
       read = tt;
       loaded = loaded_write _ _ _ c.write-answer.ensures.drive c.requires.loaded;
       waits = refl;
+      table = write_failed_row (held_mount c.args.x) c.args.b.items.items c.args.b.at c.in-Some.item _ _ there charges;
       asked = (c.in-Some.item.fseq, refl);
-      charged = write_charges g.D.Medium.Told.told c.args.number c.args.x c.args.b c.in-Some.item (record { birth = 0; file = 0; copy = 0 }) c.parted-charged.result.0 c.parted-charged.result.1 there c.parted-charged.ensures.charged c.parted-charged.ensures.returned c.requires.fits;
+      charged = charges;
       safe = tt;
       kept = tt;
       lawful = λ a k. (write_fails c.args.b.items.items c.args.b.at c.in-Some.item there, refl);
