@@ -1,2 +1,4 @@
 pub mod Walks
 pub mod ItemsOf
+mod ReadItems
+mod SourceFseqs

@@ -1,4 +1,4 @@
--- The phase behind an answer.
+-- The phase behind an answer, and what a step heard.
 use Rattle.std.proofs.Common.{◌≡◌, List, [], ◌∷◌, refl, ap, length}
 use Rattle.cta_site.specs.Listed.{Listed}
 use Rattle.cta_model.specs.declared.answers.Answer.{Answer}
@@ -14,7 +14,7 @@ use Rattle.drive_session.specs.declared.states.Mounted.{Mounted}
 use Rattle.drive_session.specs.declared.states.State.{State}
 use Rattle.drive_session.specs.declared.states.State.TheVariants as state
 use Rattle.drive_session.specs.Answers.{batch_by, batch_told, counted}
-use Rattle.drive_session.specs.Table.{AnswersLeadByPhase, GoesWith, IsBatchHand, IsLedByPhase, Reading, Writing, batch_phase, held_mount, phase_of}
+use Rattle.drive_session.specs.Table.{AnswersLeadByPhase, GoesWith, HearsAnswers, IsBatchHand, IsLedByPhase, Reading, Writing, batch_phase, held_mount, phase_of}
 
 batch_leads : {M : Type 0} (way : Direction) (is : List Item) (x : Mounted M) (items : Listed Item) (k : Hand M) → items.items ≡ is → IsBatchHand way k → phase_of (batch_by way is x items k) ≡ batch_phase way (held_mount x) is
 batch_leads way [] x items k e goes = refl
@@ -49,3 +49,8 @@ answers_lead asked.Flushed s a k goes = record { phase = refl; line = refl }
 answers_lead (asked.Recalled n) s a k goes = record { phase = refl; line = refl }
 answers_lead (asked.Known o) s a k goes = record { phase = refl; line = refl }
 answers_lead (asked.Nothing l) s a k goes = record { phase = refl; line = refl }
+
+pub hears_answers : HearsAnswers
+hears_answers (asked.Nothing line.Memory) e other = absurd (cc)
+hears_answers (asked.Nothing l) e other = refl
+hears_answers w e other = refl

@@ -1,6 +1,6 @@
 -- The rows of the table that steps make.
 use Rattle.std.proofs.Common.{◌≡◌, ℕ, ◌+◌, ◌<◌, List, [], ◌∷◌, refl, sym, ◌∙◌, ap, arith, length, true}
-use Rattle.std.specs.Prelude.{Option, Some, None, option_map, slice_get, ◌==◌}
+use Rattle.std.specs.Prelude.{Option, Some, None, option_map, slice_get}
 use Rattle.std.proofs.lemmas.Bool.{eq-eqb}
 use Rattle.std.proofs.lemmas.Option.{slice_get_past}
 use Rattle.cta_site.specs.Listed.{rows}
@@ -18,7 +18,7 @@ use Rattle.drive_session.specs.declared.states.Asked.TheVariants as asked
 use Rattle.drive_session.specs.declared.states.Outcome.{Outcome}
 use Rattle.drive_session.specs.declared.states.Outcome.TheVariants as outcome
 use Rattle.drive_session.specs.Steps.{batch_charges}
-use Rattle.drive_session.specs.Table.{HeldMount, Leaving, Reading, Ready, Row, Writing, asks, only_at, others_at, read_row, reading_row, ready_row, says, writing_row}
+use Rattle.drive_session.specs.Table.{HeldMount, Leaving, Reading, Ready, Row, Writing, asks, only_at, others_at, read_row, reading_row, says, writing_row}
 use Rattle.drive_session.proofs.Lists.{one_map}
 
 pub only_same : (n : ℕ) (row : Option Row) → only_at n n row ≡ row

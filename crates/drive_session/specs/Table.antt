@@ -28,7 +28,7 @@ use Rattle.drive_session.specs.declared.states.Outcome.TheVariants as outcome
 use Rattle.drive_session.specs.declared.states.State.{State}
 use Rattle.drive_session.specs.declared.states.State.TheVariants as state
 use Rattle.drive_session.specs.declared.states.Step.{Step}
-use Rattle.drive_session.specs.Answers.{counted, flush_line, line_after, line_of, recalled_line, state_after}
+use Rattle.drive_session.specs.Answers.{counted, flush_line, is_memory, line_after, line_of, recalled_line, said, state_after}
 
 -- ---- phases
 
@@ -169,6 +169,10 @@ row_by s = record { ask = ask_alone s.report.ask; asked = s.asked; phase = phase
 abbrev pub heard : Asked → Option Done → Option Done
 heard (asked.Nothing line.Memory) (Some (done.Ok (call.Read s))) = Some (done.NoMemory (call.Read s))
 heard w e = e
+
+-- a step whose line does not tell of a want of memory heard what the device answered
+abbrev pub HearsAnswers : Type 0
+HearsAnswers = (w : Asked) (e : Option Done) → is_memory (said w) ≡ false → heard w e ≡ e
 
 -- ---- answers
 

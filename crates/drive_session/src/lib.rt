@@ -15,7 +15,7 @@ mod taking;
 mod writing;
 
 pub use examples::{lines_stay_lawful, table_rows};
-pub use laws::answers_lead_by_phase;
+pub use laws::{answers_lead_by_phase, steps_hear_answers};
 pub use reports::{Call, Done, ReadEnd, Report, StepLine};
 pub use session::{Memo, Session};
 pub use states::{Asked, Batch, Mounted, Outcome, State};

@@ -179,7 +179,7 @@ asked_put : (e : Entry) (k : Ask) (path : List ℕ) → e.ask ≡ k → IsPutOf 
 asked_put e (ask.Put who q sum) path is put = refl
 asked_put e _ path is put = absurd put
 
-live_put : JobFileHasPut → (site : Site) (h : History) → IsLegal site h → (j : Job) → is_live_job site h j ≡ true → is_put (entry_of h j.file) ≡ true
+pub live_put : JobFileHasPut → (site : Site) (h : History) → IsLegal site h → (j : Job) → is_live_job site h j ≡ true → is_put (entry_of h j.file) ≡ true
 live_put law site h legal j live =
     let x : HasPut h j.file (path_of h j.file) = law site h legal j live in
     ap is_put x.1 ∙ asked_put x.0 x.0.ask (path_of h j.file) refl x.2

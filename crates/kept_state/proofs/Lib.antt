@@ -6,3 +6,4 @@ pub mod Mounted
 pub mod Claimed
 pub mod Batched
 pub mod Reported
+mod ToRead

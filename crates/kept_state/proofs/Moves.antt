@@ -67,3 +67,8 @@ kept_err site h h' (Err e) same = ap (λ (g : History). with_history site g) sam
 pub writes_is : (o : Option Mount) → IsMountOf direction.Archive o → IsMount o
 writes_is None writes = absurd writes
 writes_is (Some x) writes = tt
+
+-- a mount that reads is one
+pub reads_is : (o : Option Mount) → IsMountOf direction.Retrieve o → IsMount o
+reads_is None reads = absurd reads
+reads_is (Some x) reads = tt

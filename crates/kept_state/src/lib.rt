@@ -7,6 +7,7 @@ mod claims;
 mod contents;
 mod files;
 mod mounts;
+mod reads;
 mod reports;
 mod sessions;
 mod state;

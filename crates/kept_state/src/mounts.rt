@@ -15,7 +15,7 @@ use disk_buffer::DiskBuffer;
 use next_mount::{Desk, choice_is_seen, choose};
 
 // The bytes of the buffer that are free or may be evicted at a moment.
-fn room_of(buffer: &DiskBuffer, now: u64) -> u64
+pub(crate) fn room_of(buffer: &DiskBuffer, now: u64) -> u64
     requires { free_in buffer.now.held.value + bytes_of (evictable_in buffer.now.held.value now) < 2 ^ 64 }
     ensures { result ≡ free_in buffer.now.held.value + bytes_of (evictable_in buffer.now.held.value now) }
 {

@@ -1,0 +1,47 @@
+-- The pins of a file that has arrived, one by one.
+use Rattle.std.proofs.Common.{◌≡◌, ◌∙◌, ◌+◌, ◌<◌, ℕ, List, [], ◌∷◌, ◌++◌, Bool, true, false, ◌||◌, refl, sym, ap, subst, length, take, append-nil, append_assoc}
+use Rattle.std.specs.Prelude.{get_or}
+use Rattle.std.specs.List.{flat_map}
+use Rattle.std.proofs.lemmas.List.{take_more}
+use Rattle.part_values.specs.declared.space.HeldPin.{HeldPin}
+use Rattle.part_values.specs.Held.{Held, HeldAgree, pin_all, pins_in}
+use Rattle.space_steps.proofs.PinLists.{pin_all_is, pins_append}
+
+pub same_held : (v : Held) → HeldAgree v v
+same_held v = record { size = refl; files = refl; aside = refl; pins = λ t f id. refl }
+
+-- pins that are set, and then more of them
+pub pin_both : (xs ys : List HeldPin) (a b c : Held) → HeldAgree b (pin_all xs a) → HeldAgree c (pin_all ys b) → HeldAgree c (pin_all (xs ++ ys) a)
+pin_both xs ys a b c first then_more =
+    let x = pin_all_is xs a in
+    let y = pin_all_is ys b in
+    let z = pin_all_is (xs ++ ys) a in
+    record {
+      size = then_more.size ∙ y.3 ∙ first.size ∙ x.3 ∙ sym z.3;
+      files = then_more.files ∙ y.1 ∙ first.files ∙ x.1 ∙ sym z.1;
+      aside = then_more.aside ∙ y.2 ∙ first.aside ∙ x.2 ∙ sym z.2;
+      pins = λ t f id.
+          then_more.pins t f id ∙ ap (λ (ps : List HeldPin). pins_in ps t f id) y.0 ∙ pins_append ys b.pins t f id
+          ∙ ap (λ (t' : Bool). pins_in ys t f id || t') (first.pins t f id ∙ ap (λ (ps : List HeldPin). pins_in ps t f id) x.0 ∙ pins_append xs a.pins t f id)
+          ∙ swapped (pins_in ys t f id) (pins_in xs t f id) (pins_in a.pins t f id)
+          ∙ sym (ap (λ (ps : List HeldPin). pins_in ps t f id) z.0 ∙ pins_append (xs ++ ys) a.pins t f id ∙ ap (λ (t' : Bool). t' || pins_in a.pins t f id) (pins_append xs ys t f id));
+    }
+  where
+    swapped : (p q r : Bool) → (p || (q || r)) ≡ ((q || p) || r)
+    swapped true true r = refl
+    swapped true false r = refl
+    swapped false true r = refl
+    swapped false false r = refl
+
+flat_last : (own : ℕ → List HeldPin) (xs : List ℕ) (x : ℕ) → flat_map own (xs ++ x ∷ []) ≡ flat_map own xs ++ own x
+flat_last own [] x = append-nil _
+flat_last own (y ∷ xs) x = ap (λ (ps : List HeldPin). own y ++ ps) (flat_last own xs x) ∙ sym (append_assoc (own y) (flat_map own xs) (own x))
+
+-- the pins of one owner more
+pub pinned_more : (mine yours : ℕ → ℕ → List HeldPin) (f : ℕ) (ids : List ℕ) (i d : ℕ) (first before mid now : Held) → i < length ids → HeldAgree before (pin_all (flat_map (λ id. mine id f ++ yours id f) (take i ids)) first)
+    → HeldAgree mid (pin_all (mine (get_or ids i d) f) before) → HeldAgree now (pin_all (yours (get_or ids i d) f) mid) → HeldAgree now (pin_all (flat_map (λ id. mine id f ++ yours id f) (take (i + 1) ids)) first)
+pinned_more mine yours f ids i d first before mid now low was one two =
+    let both : HeldAgree now (pin_all (mine (get_or ids i d) f ++ yours (get_or ids i d) f) before) = pin_both (mine (get_or ids i d) f) (yours (get_or ids i d) f) before mid now one two in
+    let all : HeldAgree now (pin_all (flat_map (λ id. mine id f ++ yours id f) (take i ids) ++ (mine (get_or ids i d) f ++ yours (get_or ids i d) f)) first) =
+    pin_both (flat_map (λ id. mine id f ++ yours id f) (take i ids)) (mine (get_or ids i d) f ++ yours (get_or ids i d) f) first before now was both in
+    subst (λ (ps : List HeldPin). HeldAgree now (pin_all ps first)) (sym (ap (flat_map (λ id. mine id f ++ yours id f)) (take_more ids i d low) ∙ flat_last (λ id. mine id f ++ yours id f) (take i ids) (get_or ids i d))) all

@@ -1,0 +1,15 @@
+mod Behind
+mod ItemLoops
+mod WaitLists
+mod ReadFacts
+mod GivenReads
+mod RecallFacts
+mod StaleReads
+mod MarkedItems
+mod CompletedFiles
+mod BornCopies
+mod ArrivalPins
+mod ReadCopies
+mod ToldPins
+mod DoneReads
+mod DoneFacts

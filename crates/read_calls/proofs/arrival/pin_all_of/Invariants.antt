@@ -1,0 +1,14 @@
+-- The requests and repacks that the loop has passed pin the file where they do so by their books, and there is room for the others.
+use Rattle.std.proofs.Common.{◌≡◌, ◌+◌, ◌*◌, ◌≤◌, length, take}
+use Rattle.std.specs.List.{flat_map}
+use Rattle.part_values.specs.Held.{HeldAgree, pin_all}
+use Rattle.repack_book.specs.Kept.{repacks_of}
+use Rattle.read_calls.specs.Reading.{pins_by}
+use Rattle.read_calls.proofs.arrival.pin_all_of.Given as goal
+
+abbrev pub invariant-loop-id : goal.invariant-loop-id
+invariant-loop-id l = record {
+  held : HeldAgree l.buffer.held.value (pin_all (flat_map (pins_by l.requests (repacks_of l.repacks) l.file) (take l.id-index l.ids)) l.initial.buffer.held.value);
+  contents : l.buffer.contents ≡ l.initial.buffer.contents;
+  room : 2 * length l.ids ≤ l.buffer.held.room + 2 * l.id-index;
+}
