@@ -5,7 +5,7 @@ ghost use Rattle.cta_model.specs.Answers.{answer_of, is_accepted};
 ghost use Rattle.cta_model.specs.Bare.{bare_answer};
 ghost use Rattle.cta_model.specs.Hands.{HandBack};
 ghost use Rattle.cta_model.specs.Kept.{kept_after};
-ghost use Rattle.cta_model.specs.Legal.{IsMount, IsMountOf, greatest_moment};
+ghost use Rattle.cta_model.specs.Legal.{IsMountOf, greatest_moment};
 ghost use Rattle.cta_model.specs.Mounts.{is_open, mount_of};
 
 use blob::Told;
@@ -26,7 +26,6 @@ pub fn claim<M: Told + Drop>(
     mount: u32,
 ) -> Result<(Answer, Hand<M>), (NoMemory, Ask, Hand<M>)>
     requires at { at ≤ greatest_moment }
-    requires fit { IsMount (mount_of state.old.history mount) }
     requires writes { is_open state.old.history mount ≡ true → IsMountOf direction.Archive (mount_of state.old.history mount) }
     ensures answer { IfOk result (λ r. bare_answer r.0 ≡ answer_of state.old.site state.old.history at (Ask.Claim mount)) }
     ensures kept { IfOk result (λ r. state.new ≡ kept_after state.old at (Ask.Claim mount) (bare_answer r.0)) }

@@ -1,12 +1,12 @@
 // The Claim of a mount that reads.
-ghost use Rattle.std.specs.Prelude.{◌≡◌, ◌≤◌, ◌∷◌, Some, true, IfOk, IfErr, OnErr};
+ghost use Rattle.std.specs.Prelude.{◌≡◌, ◌+◌, ◌<◌, ◌≤◌, ◌^◌, ◌∷◌, Some, length, true, IfOk, IfErr, OnErr};
 ghost use Rattle.cta_site.specs.Listed.{rows};
 ghost use Rattle.cta_model.specs.declared.states.Mount.{Mount};
 ghost use Rattle.cta_model.specs.Answers.{answer_of, is_accepted};
 ghost use Rattle.cta_model.specs.Bare.{bare_answer};
 ghost use Rattle.cta_model.specs.Batches.{batch_of};
 ghost use Rattle.cta_model.specs.History.{moment_of};
-ghost use Rattle.cta_model.specs.Legal.{greatest_moment, IsLegal, IsMountOf, new_entry};
+ghost use Rattle.cta_model.specs.Legal.{actor_of, greatest_moment, IsLegal, IsMountOf, new_entry};
 ghost use Rattle.cta_model.specs.Mounts.{mount_of};
 ghost use Rattle.kept_parts.specs.Kept.{ArePartsKept};
 
@@ -21,6 +21,33 @@ use kept_history::KeptHistory;
 use kept_parts::{KeptParts, Needs, kept_parts_move, same_parts_are_kept};
 use keyed_site::KeyedSite;
 use std::alloc::Global;
+
+// The rooms that a Claim of a mount that reads needs beside those of its eviction: one for each job that it claims.
+fn needs_of(items: &[Item]) -> Needs
+    requires { length items.now < 2 ^ 32 }
+    ensures jobs { result.jobs ≡ length items.now }
+{
+    Needs {
+        jobs: items.len() as u32,
+        ..Needs::default()
+    }
+}
+
+// Appends the entry of the Claim.
+fn append_claim(history: &mut KeptHistory, at: u64, drive: u32, mount: u32, answer: Answer)
+    requires room { 0 < history.old.room }
+    requires few { length history.old.value + 2 < 2 ^ 32 }
+    requires by { Actor.Drive drive ≡ actor_of history.old.value (Ask.Claim mount) }
+    ensures { history.new.value ≡ new_entry history.old.value at (Ask.Claim mount) (bare_answer answer) ∷ history.old.value }
+{
+    append(
+        history,
+        at,
+        Actor::Drive(drive),
+        Ask::Claim { mount },
+        answer,
+    );
+}
 
 // The answer that a batch is to be read, for which these files were evicted.
 fn batch(items: Rows<Item>, evicted: Rows<u32>) -> Answer
@@ -71,11 +98,7 @@ pub fn claim_reads(
         Ok(found) => found,
         Err(error) => return Err((error, items)),
     };
-    let needs = Needs {
-        jobs: items.len() as u32,
-        ..Needs::default()
-    };
-    if let Err(error) = make_room(history, parts, needs) {
+    if let Err(error) = make_room(history, parts, needs_of(items.as_slice())) {
         return Err((error, items));
     }
     let Found {
@@ -97,12 +120,6 @@ pub fn claim_reads(
         &mut evicted,
     );
     add_numbers(evicted.as_slice(), &mut gone);
-    append(
-        history,
-        at,
-        Actor::Drive(mounted.drive),
-        Ask::Claim { mount },
-        batch(told, gone),
-    );
+    append_claim(history, at, mounted.drive, mount, batch(told, gone));
     Ok(batch(items, evicted))
 }

@@ -57,16 +57,16 @@ give_reads-requires-clause-fits c =
     read_size_fits c.buffer_has_room.ensures c.args.site.now h c.make_room.new.parts c.args.at c.args.mount c.bytes_of-bytes.result c.mount_at-mounted.result c.args.items.items well c.requires.legal kept c.requires.at c.requires.reads c.requires.batch
     (c.mount_at-mounted.ensures c.args.site.now h kept.stand.mounts) (c.bytes_of-bytes.ensures ∙ ap size_of_items c.as_slice.ensures)
 
-pub append-requires-clause-few : goal.append-requires-clause-few
-append-requires-clause-few c =
+pub append_claim-requires-clause-few : goal.append_claim-requires-clause-few
+append_claim-requires-clause-few c =
     subst (λ (g : History). length g + 2 < 2 ^ 32) (sym c.in_default.ensures.entries)
     (few_entries c.args.site.now c.args.history.now.value c.stays_short.ensures (subst IsWellFormed c.site.ensures c.keeps_rules.ensures.parts) c.requires.legal)
 
-pub overflow_cast-needs : goal.overflow_cast-needs
-overflow_cast-needs c =
+pub needs_of-requires : goal.needs_of-requires
+needs_of-requires c =
     let well : IsWellFormed c.args.site.now = subst IsWellFormed c.site.ensures c.keeps_rules.ensures.parts in
     let short : length c.args.items.items < 2 ^ 32 = batch_is_short c.args.site.now c.args.history.now.value c.args.at c.args.mount c.args.items.items c.claims_are_short.ensures well c.requires.legal c.requires.at c.requires.reads c.requires.accepted c.requires.batch in
-    omega (arith, short, c.len.ensures)
+    subst (λ (xs : List Item). length xs < 2 ^ 32) (sym c.as_slice-3.ensures) short
 
 pub returns-in-Err-make_room-clause-still : goal.returns-in-Err-make_room-clause-still
 returns-in-Err-make_room-clause-still c = c.same_parts_are_kept.ensures c.args.site.now c.args.history.now.value c.args.parts.now c.make_room.new.parts c.in-Err-make_room.ensures.parts c.requires.kept
@@ -98,20 +98,20 @@ returns-clause-kept c =
     let out : c.give_reads.new.evicted.items ≡ evicted_for v (moment_of h c.args.at) (size_of_items items) =
     evicted_all v c.moment_of-moment.result (moment_of h c.args.at) c.bytes_of-bytes.result (size_of_items items) c.in-Ok.found.evicted.items c.give_reads.new.evicted.items c.give_reads.ensures.evicted c.in-Ok.ensures.evicted c.moment_of-moment.ensures size in
     let gone : c.add_numbers.new.out.items ≡ evicted_for v (moment_of h c.args.at) (size_of_items items) =
-    c.add_numbers.ensures ∙ ap (λ (fs : List ℕ). fs ++ c.as_slice-4.result.now) c.in-Ok.ensures.gone ∙ c.as_slice-4.ensures ∙ out in
+    c.add_numbers.ensures ∙ ap (λ (fs : List ℕ). fs ++ c.as_slice-5.result.now) c.in-Ok.ensures.gone ∙ c.as_slice-5.ensures ∙ out in
     let all : recalls_in (item_jobs last.items) ≡ files_in last.items =
     subst (λ (l : Listed Item). recalls_in (item_jobs l.items) ≡ files_in l.items) (sym same_last) (batch_recalls site h c.args.at c.args.mount x items c.requires.reads c.requires.batch is) in
     let bytes : c.bytes_of-bytes.result ≡ size_of_items last.items = size ∙ sym (ap (λ (l : Listed Item). size_of_items l.items) same_last) in
-    let pairs : c.as_slice-3.result.now ≡ waits_for_all (live_recall site h) (files_in last.items) =
-    c.as_slice-3.ensures.value ∙ c.in-Ok.ensures.waiters
+    let pairs : c.as_slice-4.result.now ≡ waits_for_all (live_recall site h) (files_in last.items) =
+    c.as_slice-4.ensures.value ∙ c.in-Ok.ensures.waiters
     ∙ ap (λ (is : List Item). waits_for_all (book_in c.args.parts.now.book.value).recall (files_in is)) (c.as_slice-2.ensures ∙ sym (ap (λ (l : Listed Item). l.items) same_last))
     ∙ waits_same (book_in c.args.parts.now.book.value).recall (live_recall site h) (files_in last.items) c.requires.kept.stand.jobs.book.recall in
     let entry : bare_answer c.batch.result ≡ answer.Batch (rows items) (rows (evicted_for v (moment_of h c.args.at) (size_of_items items))) =
     c.batch.ensures ∙ ap (λ (l : Listed Item). answer.Batch (rows l.items) (rows c.add_numbers.new.out.items)) same_told ∙ ap (λ (fs : List ℕ). answer.Batch (rows items) (rows fs)) gone in
-    kept_behind site h c.append.new.history.value c.args.at (ask.Claim c.args.mount) (answer.Batch (rows items) (rows (evicted_for v (moment_of h c.args.at) (size_of_items items)))) c.make_room.new.parts c.give_reads.new.parts c.kept_parts_move.ensures
+    kept_behind site h c.append_claim.new.history.value c.args.at (ask.Claim c.args.mount) (answer.Batch (rows items) (rows (evicted_for v (moment_of h c.args.at) (size_of_items items)))) c.make_room.new.parts c.give_reads.new.parts c.kept_parts_move.ensures
     c.requires.legal kept c.requires.at (claim_is_fit h c.args.mount c.requires.reads)
     (claim_answered site h c.make_room.new.parts c.args.at c.args.mount items c.requires.legal kept c.requires.at c.requires.reads c.requires.accepted c.requires.batch) c.requires.accepted
     (called_as site h c.moment_of-moment.result (moment_of h c.args.at) x.drive (drive_by (mount_of h c.args.mount)) c.args.mount c.bytes_of-bytes.result (size_of_items items) last (rows items) v c.make_room.new.parts c.give_reads.new.parts
     (c.give_reads.ensures.called site h x.drive kept (claim_mount h c.args.mount x c.requires.reads is) all bytes pairs) c.moment_of-moment.ensures (drive_asks h c.args.mount x is) same_last size)
-    (subst (λ (a : Answer). c.append.new.history.value ≡ new_entry h c.args.at (ask.Claim c.args.mount) a ∷ h) entry
-    (subst (λ (g : History). c.append.new.history.value ≡ new_entry g c.args.at (ask.Claim c.args.mount) (bare_answer c.batch.result) ∷ g) c.in_default.ensures.entries c.append.ensures))
+    (subst (λ (a : Answer). c.append_claim.new.history.value ≡ new_entry h c.args.at (ask.Claim c.args.mount) a ∷ h) entry
+    (subst (λ (g : History). c.append_claim.new.history.value ≡ new_entry g c.args.at (ask.Claim c.args.mount) (bare_answer c.batch.result) ∷ g) c.in_default.ensures.entries c.append_claim.ensures))
