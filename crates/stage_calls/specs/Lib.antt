@@ -1,0 +1,4 @@
+pub mod Recalls
+pub mod Wanted
+pub mod Texts
+pub mod Sorted
