@@ -13,8 +13,8 @@ use cta_model::{Answer, Ask, Hand, Refusal};
 use cta_site::NoMemory;
 use kept_state::KeptState;
 
-/// Answers the Claim of a mount that writes, or of one that is not open any more, whichever way it went, at this moment, in seconds since
-/// 1970, or at the last entry's where that is later.
+/// Answers the Claim of a mount that writes, or of one that is not open, whether it never was or whichever way it went, at this moment, in
+/// seconds since 1970, or at the last entry's where that is later.
 ///
 /// The answer is the sequential archive's on the history: Unknown where the mount is not open, Nothing where nothing that waits fits on
 /// its tape, and otherwise the refusal HistoryFull or the batch with its contents. A Claim that is accepted appends its one entry, and any
