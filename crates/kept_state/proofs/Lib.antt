@@ -6,4 +6,5 @@ pub mod Mounted
 pub mod Claimed
 pub mod Batched
 pub mod Reported
+mod Requested
 mod ToRead

@@ -9,7 +9,9 @@ mod files;
 mod mounts;
 mod reads;
 mod reports;
+mod requests;
 mod sessions;
+mod stages;
 mod state;
 
 pub use state::KeptState;
