@@ -1,5 +1,5 @@
 -- What asks of drives are answered, by the tests of their refusals.
-use Rattle.std.proofs.Common.{◌≡◌, ℕ, ◌<◌, arith, length, List, Bool, true, false, refl}
+use Rattle.std.proofs.Common.{◌≡◌, ℕ, ◌<◌, arith, length, List, [], ◌∷◌, Bool, true, false, refl}
 use Rattle.std.specs.Prelude.{Option, ◌&&◌, nat_le}
 use Rattle.blob.specs.Records.{TapeRecords}
 use Rattle.cta_site.specs.declared.site.Site.{Site}
@@ -7,6 +7,7 @@ use Rattle.cta_site.specs.Listed.{Listed, rows}
 use Rattle.cta_model.specs.declared.asks.Ask.TheVariants as ask
 use Rattle.cta_model.specs.declared.asks.Fault.{Fault}
 use Rattle.cta_model.specs.declared.asks.Item.{Item}
+use Rattle.cta_model.specs.declared.asks.Job.{Job}
 use Rattle.cta_model.specs.declared.answers.Answer.{Answer}
 use Rattle.cta_model.specs.declared.answers.Answer.TheVariants as answer
 use Rattle.cta_model.specs.declared.answers.Refusal.TheVariants as refusal
@@ -22,6 +23,12 @@ flush_refused site h t m items known = rw known refl
 
 pub flush_accepted : (site : Site) (h : History) (t m : ℕ) (items : List Item) → (is_known h m (item_jobs items) && is_last_batch (last_batch h m) items) ≡ true → is_accepted (answer_of site h t (ask.Flushed m (rows items))) ≡ true
 flush_accepted site h t m items known = rw known refl
+
+pub recall_refused : (site : Site) (h : History) (t m : ℕ) (job : Job) → is_known h m (job ∷ []) ≡ false → answer.Refused refusal.Unknown ≡ answer_of site h t (ask.Recalled m job)
+recall_refused site h t m job known = rw known refl
+
+pub recall_accepted : (site : Site) (h : History) (t m : ℕ) (job : Job) → is_known h m (job ∷ []) ≡ true → is_accepted (answer_of site h t (ask.Recalled m job)) ≡ true
+recall_accepted site h t m job known = rw known refl
 
 pub end_refused : (site : Site) (h : History) (t m : ℕ) (fault : Option Fault) → (is_open h m && is_empty (claimed_items h m)) ≡ false → answer.Refused refusal.Unknown ≡ answer_of site h t (ask.End m fault)
 end_refused site h t m fault may = rw may refl
@@ -45,6 +52,10 @@ next_busy site h t d low down busy = rw (known_drive (length site.drives.items) 
 pub flush_hand : {M : Type 0} (told : M → Option TapeRecords) (h later : History) (m : ℕ) (items : Listed Item) (a : Answer) (in_hand : Hand M) (accepted : Bool) → accepted ≡ true → HandBack told accepted h later (ask.Flushed m items) a in_hand hand.Nothing
 flush_hand told h later m items a in_hand true is = tt
 flush_hand told h later m items a in_hand false is = absurd (cc)
+
+pub recall_hand : {M : Type 0} (told : M → Option TapeRecords) (h later : History) (m : ℕ) (job : Job) (a : Answer) (in_hand : Hand M) (accepted : Bool) → accepted ≡ true → HandBack told accepted h later (ask.Recalled m job) a in_hand hand.Nothing
+recall_hand told h later m job a in_hand true is = tt
+recall_hand told h later m job a in_hand false is = absurd (cc)
 
 pub end_hand : {M : Type 0} (told : M → Option TapeRecords) (h later : History) (m : ℕ) (fault : Option Fault) (a : Answer) (in_hand : Hand M) (accepted : Bool) → accepted ≡ true → HandBack told accepted h later (ask.End m fault) a in_hand hand.Nothing
 end_hand told h later m fault a in_hand true is = tt

@@ -1,5 +1,5 @@
-//! The asks of drives' sessions that write: Next, the Claim of a mount that writes, Flushed and
-//! End, refused in their order or carried out; and the looks at tapes and queues, TapeInfo and Queues.
+//! The asks of drives' sessions: Next, Claim, Flushed, Recalled and End, refused in their order or carried out; and the looks at tapes
+//! and queues, TapeInfo and Queues.
 #![tactic(auto)]
 
 mod claims;
@@ -7,9 +7,12 @@ mod ends;
 mod flushes;
 mod looks;
 mod nexts;
+mod reads;
+mod recalls;
 
 pub use claims::claim;
 pub use ends::end;
 pub use flushes::flushed;
 pub use looks::{queues, tape_info};
 pub use nexts::next;
+pub use recalls::recalled;

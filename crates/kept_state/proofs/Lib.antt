@@ -8,3 +8,4 @@ pub mod Batched
 pub mod Reported
 mod Requested
 mod ToRead
+pub mod Recalled

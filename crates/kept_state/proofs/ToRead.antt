@@ -1,10 +1,11 @@
 -- The batch of a mount that reads, told by the parts.
-use Rattle.std.proofs.Common.{◌≡◌, ◌∙◌, ℕ, zero, suc, ◌+◌, ◌-◌, ◌≤◌, List, [], ◌∷◌, Bool, true, false, not, refl, sym, ap, subst, arith, length}
+use Rattle.std.proofs.Common.{◌≡◌, ◌∙◌, ℕ, zero, suc, ◌+◌, ◌-◌, ◌^◌, ◌≤◌, ◌<◌, List, [], ◌∷◌, Bool, true, false, not, refl, sym, ap, subst, arith, length}
 use Rattle.std.specs.Prelude.{Some, Result, Ok, Err, IfOk, if◌then◌else◌, map, nat_le}
 use Rattle.std.proofs.lemmas.Bool.{and_parts}
 use Rattle.cta_site.specs.declared.site.Site.{Site}
 use Rattle.cta_site.specs.Listed.{Listed}
 use Rattle.cta_site.specs.Lookups.{copies_of}
+use Rattle.cta_site.specs.WellFormed.{IsWellFormed}
 use Rattle.cta_model.specs.declared.answers.Answer.{Answer}
 use Rattle.cta_model.specs.declared.answers.Answer.TheVariants as answer
 use Rattle.cta_model.specs.declared.answers.Refusal.TheVariants as refusal
@@ -20,7 +21,11 @@ use Rattle.cta_model.specs.History.{History, entry_of, moment_of}
 use Rattle.cta_model.specs.Legal.{IsLegal, IsMountOf, greatest_moment}
 use Rattle.cta_model.specs.Mounts.{mount_of}
 use Rattle.cta_model.specs.Queues.{is_queued, queue_of}
+use Rattle.cta_model.specs.Space.{evictable_size, free_space}
+use Rattle.cta_model.specs.Tapes.{size_of_items}
 use Rattle.cta_laws.specs.Jobs.{JobFileHasPut}
+use Rattle.cta_laws.specs.Space.{BufferHasRoom}
+use Rattle.cta_laws.proofs.BufferLaw.{read_fits}
 use Rattle.cta_laws.proofs.Claims.{AllOf, all_mono, all_pass}
 use Rattle.cta_laws.proofs.KeyLaw.{same_mount}
 use Rattle.kept_history.specs.Puts.{is_put}
@@ -40,7 +45,8 @@ use Rattle.kept_parts.specs.Kept.{ArePartsKept, values_of}
 use Rattle.kept_parts.specs.declared.parts.KeptParts.{KeptParts}
 use Rattle.kept_state.proofs.Batched.{live_put}
 use Rattle.kept_state.proofs.Claimed.{row_opens}
-use Rattle.kept_state.proofs.Now.{now_late, now_low}
+use Rattle.kept_state.proofs.Now.{buffer_now, now_late, now_low, room_low}
+use Rattle.space_steps.specs.SpaceLaws.{Tells}
 
 -- a mount that reads is this one
 row_reads : (site : Site) (h : History) (m : ℕ) (r : OpenMount) → IsRow site h m r → IsMountOf direction.Retrieve (mount_of h m) → r.direction ≡ direction.Retrieve
@@ -131,3 +137,18 @@ read_answered site h t m r (Err e) made row reads is batch = tt
 read_answered site h t m r (Ok items) made row reads is batch = λ x found.
     (let same : record { drive = r.drive; direction = r.direction; tape = r.tape } ≡ x = same_mount (record { drive = r.drive; direction = r.direction; tape = r.tape }) x (sym row.mount ∙ found) in
     is ∙ batch ∙ ap (λ (w : Direction). batch_by site h (moment_of h t) w r.tape) (sym (row_reads site h m r row reads)) ∙ ap (batch_of site h (moment_of h t)) same)
+
+-- ---- the bytes
+
+below : (size free more a b most : ℕ) → size ≤ free + more → a ≡ free → b ≡ more → a + b < most → size < most
+below size free more a b most fits free_is more_is low = omega arith
+
+-- the bytes of a batch are a number of 64 bits
+pub read_size : {E : Type 0} → BufferHasRoom → (site : Site) (h : History) (p : KeptParts) (t v : ℕ) (q : Result (Listed Item) E) (made : List Item) → IsWellFormed site → IsLegal site h → ArePartsKept site h p → t ≤ greatest_moment
+    → IfOk q (λ items. items.items ≡ made) → made ≡ batch_by site h (moment_of h t) direction.Retrieve v → IfOk q (λ items. size_of_items items.items < 2 ^ 64)
+read_size law site h p t v (Err e) made well legal kept top is batch = tt
+read_size law site h p t v (Ok items) made well legal kept top is batch =
+    let tells : Tells site h p.buffer.held.value (moment_of h t) = buffer_now site h p t legal kept top in
+    subst (λ (xs : List Item). size_of_items xs < 2 ^ 64) (sym (is ∙ batch))
+    (below (size_of_items (batch_by site h (moment_of h t) direction.Retrieve v)) (free_space site h) (evictable_size site h (moment_of h t)) (free_in p.buffer.held.value) (bytes_of (evictable_in p.buffer.held.value (moment_of h t))) (2 ^ 64)
+    (read_fits site h (moment_of h t) v) tells.free tells.evictable (room_low law site h p (moment_of h t) well legal kept))

@@ -62,7 +62,7 @@ fn is_last(row: &OpenMount, items: &[Item]) -> bool
 }
 
 // Whether a mount claims a job.
-fn claims(book: &JobBook, mount: u32, job: Job) -> bool
+pub(crate) fn claims(book: &JobBook, mount: u32, job: Job) -> bool
     ensures { result ≡ claims_told book.now.value mount job }
 {
     match book.claimer(job) {

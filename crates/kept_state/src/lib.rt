@@ -8,6 +8,7 @@ mod contents;
 mod files;
 mod mounts;
 mod reads;
+mod recalls;
 mod reports;
 mod requests;
 mod sessions;

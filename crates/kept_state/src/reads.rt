@@ -1,5 +1,5 @@
 // Asks of sessions that read, which are accepted.
-ghost use Rattle.std.specs.Prelude.{◌≡◌, ◌≤◌, Some, IfOk, IfErr, OnErr, true};
+ghost use Rattle.std.specs.Prelude.{◌≡◌, ◌≤◌, ◌<◌, ◌^◌, Some, IfOk, IfErr, OnErr, true};
 ghost use Rattle.blob.specs.Sums.{sum_of};
 ghost use Rattle.cta_model.specs.declared.asks.Direction.TheVariants as direction;
 ghost use Rattle.cta_model.specs.declared.states.Mount.{Mount};
@@ -12,6 +12,7 @@ ghost use Rattle.cta_model.specs.History.{moment_of};
 ghost use Rattle.cta_model.specs.Kept.{kept_after};
 ghost use Rattle.cta_model.specs.Legal.{IsMountOf, greatest_moment};
 ghost use Rattle.cta_model.specs.Mounts.{is_open, mount_of};
+ghost use Rattle.cta_model.specs.Tapes.{size_of_items};
 
 use crate::mounts::room_of;
 use crate::state::KeptState;
@@ -25,13 +26,15 @@ use std::sync::Arc;
 
 impl<M: Told + Drop> KeptState<M> {
     /// The batch that a Claim of an open mount that reads takes at this moment, in seconds since 1970, or at the last entry's where that
-    /// is later: no items where nothing that waits fits in the buffer. NoMemory gives nothing. Its cost is that of `DiskBuffer::evictable`,
-    /// and the square of the number of the items, each with the logarithm of the number of queued jobs.
+    /// is later: no items where nothing that waits fits in the buffer. The sum of their bytes is a number of 64 bits. NoMemory gives
+    /// nothing. Its cost is that of `DiskBuffer::evictable`, and the square of the number of the items, each with the logarithm of the
+    /// number of queued jobs.
     pub fn batch_to_read(&self, at: u64, mount: u32) -> Result<Rows<Item>, NoMemory>
         requires at { at ≤ greatest_moment }
         requires open { is_open self.now.history mount ≡ true }
         requires reads { IsMountOf direction.Retrieve (mount_of self.now.history mount) }
-        ensures { IfOk result (λ items. (x : Mount) → mount_of self.now.history mount ≡ Some x → items.items ≡ batch_of self.now.site self.now.history (moment_of self.now.history at) x) }
+        ensures batch { IfOk result (λ items. (x : Mount) → mount_of self.now.history mount ≡ Some x → items.items ≡ batch_of self.now.site self.now.history (moment_of self.now.history at) x) }
+        ensures size { IfOk result (λ items. size_of_items items.items < 2 ^ 64) }
     {
         buffer_has_room();
         job_file_has_put();
