@@ -1,5 +1,2 @@
-pub mod Copies
-pub mod PlaceInfos
-pub mod OnlyPuts
-pub mod KeptPuts
-pub mod PutAnswers
+pub mod Orders
+pub mod Plays

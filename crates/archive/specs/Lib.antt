@@ -1,2 +1,2 @@
-pub mod Scans
-pub mod Puts
+pub use Rattle.core_files.specs.Kept
+pub mod InOrder

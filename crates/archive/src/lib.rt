@@ -1,14 +1,12 @@
-//! The archive: it keeps its site and the history of accepted asks, and answers each ask and look as the sequential
-//! archive does on that history. So far it keeps the entries alone and scans them, so an ask or a look costs time linear
-//! in the history.
+//! The archive: its site, its history of accepted asks, and all that stands for it. Each ask and each look is answered as the sequential
+//! archive of `cta_model` does on that history, as far as it is served, also in a turn of a hall.
 #![tactic(auto)]
 
 mod archive;
-mod buffer;
-mod entries;
-mod files;
-mod localities;
-mod places;
-mod tapes;
+mod asks;
+mod looks;
+mod order;
+mod turns;
 
 pub use archive::Archive;
+pub use order::turns_in_order;

@@ -27,7 +27,7 @@ use Rattle.archive_turns.specs.Topics.{topic_of}
 use Rattle.archive_turns.specs.Plays.{Plays, call_adds}
 use Rattle.archive_turns.specs.Laws.{EntriesNameTheirMounts, MountIsKept}
 use Rattle.archive_hall.specs.OwnMounts.{NextOpens, OwnOverTurns, OwnOverJoins, OwnMountStays}
-use Rattle.archive_hall.proofs.Orders.{reverse_more, behind_apart, reverse_behind}
+use Rattle.archive.proofs.Orders.{reverse_more, behind_apart, reverse_behind}
 
 own_number : (m n : ℕ) → (m ≡ n) ⊎ (None ≡ Some m) → m ≡ n
 own_number m n (inl same) = same

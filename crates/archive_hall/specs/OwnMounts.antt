@@ -22,7 +22,7 @@ use Rattle.archive_turns.specs.declared.calls.ArchiveBack.{ArchiveBack}
 use Rattle.archive_turns.specs.declared.calls.ArchiveBack.TheVariants as back
 use Rattle.archive_turns.specs.Topics.{topic_of}
 use Rattle.archive_turns.specs.Plays.{call_adds}
-use Rattle.archive_hall.specs.InOrder.{IsLegalInOrder, PlaysInOrder}
+use Rattle.archive.specs.InOrder.{IsLegalInOrder, PlaysInOrder}
 
 module _ {M : Type 0} (told : M → Option TapeRecords) where
   -- what a pass of an archive's hall knows

@@ -1,4 +1,4 @@
-// Two threads at one hall. It is written for every value that a hall may keep: that a pass may cross threads is found where the
+// Two threads at one hall. It is written for every value whose callers put files: that a pass may cross threads is found where the
 // value is a type parameter, and not where it is a type with as many fields as an archive.
 ghost use Rattle.std.specs.Prelude.{◌≡◌, ◌+◌};
 ghost use Rattle.turn_hall.specs.Handles.{IsPassOf};

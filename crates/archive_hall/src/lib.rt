@@ -1,17 +1,14 @@
-//! A trial of an archive in a turn hall: callers put files and look, each in a turn of its own, and hands go in and out with
-//! their calls. So far only a Put and an ArchiveInfo are played, and each other call is answered want of memory.
+//! An archive in a turn hall: callers put files and ask what drives do next, each in a turn of its own, on threads too; and what a
+//! drive's pass keeps of the mount that its own Next made.
 #![tactic(auto)]
 
 mod crew;
-mod desk;
 mod drives;
 mod files;
-mod order;
+mod puts;
 #[cfg(test)]
 mod tests;
 
 pub use crew::{Put, Serves, both, one_then_other};
-pub use desk::Desk;
-pub use drives::own_mount_stays;
+pub use drives::{ask_next, own_mount_stays};
 pub use files::put_file;
-pub use order::turns_in_order;

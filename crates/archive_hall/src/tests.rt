@@ -1,21 +1,23 @@
 // Two threads at one archive.
-ghost use Rattle.std.specs.Prelude.{◌≡◌, ◌+◌, IfSome};
-ghost use Rattle.turn_hall.specs.Handles.{IsPassOf, seats_in};
+ghost use Rattle.std.specs.Prelude.{◌≡◌, ◌+◌, ◌<◌, IfOk, IfSome, length};
+ghost use Rattle.turn_hall.specs.Handles.{IsPassOf, first_of, seats_in};
 
-use crate::{Desk, Put, both, one_then_other, put_file};
+use crate::{Put, Serves, ask_next, both, one_then_other, put_file};
+use archive::Archive;
 use archive_turns::{ArchiveBack, ArchiveCall};
 use blob::Blob;
-use cta_model::{Answer, Locality, Look, Refusal, Told, Who};
+use cta_model::{Answer, Direction, Locality, Look, Refusal, Told, Who};
 use cta_site::{Rows, Text, ValidSite};
 use site_json::read_site;
 use std::alloc::{AllocError, Global};
+use std::hash::RandomState;
 use std::sync::{Arc, Wait};
 use std::test::Fail;
 use std::thread::Threads;
 use turn_hall::{Hall, Keeps, Pass};
 
 const SITE: &str =
-    r#"{"classes":[{"copies":1,"name":"raw","vo":"atlas"}],"defaultPolicy":"std","directories":[{"class":"raw","path":"/atlas"}],"drives":[{"library":"L1","name":"d1"}],"endpoint":"https://tape.example.org/api/v1","libraries":["L1"],"limits":{"archiveBytes":100,"archiveFiles":1,"batchFiles":10,"buffer":1000,"file":1000,"history":2,"lifetime":60,"retrieveBytes":100,"retrieveFiles":1,"tries":3},"policies":[{"archiveMinAge":10,"archivePriority":1,"name":"std","retrieveMinAge":10,"retrievePriority":1}],"pools":[{"name":"p1","vo":"atlas"}],"repackPolicy":"std","routes":[{"class":"raw","copy":1,"pool":"p1"}],"sitename":"T1","tapes":[{"capacity":1000,"library":"L1","pool":"p1","state":"ACTIVE","vid":"V1"}],"version":1,"vos":[{"name":"atlas","readDrives":1,"writeDrives":1}]}"#;
+    r#"{"classes":[{"copies":1,"name":"raw","vo":"atlas"}],"defaultPolicy":"std","directories":[{"class":"raw","path":"/atlas"}],"drives":[{"library":"L1","name":"d1"}],"endpoint":"https://tape.example.org/api/v1","libraries":["L1"],"limits":{"archiveBytes":100,"archiveFiles":1,"batchFiles":10,"buffer":1000,"file":1000,"history":3,"lifetime":60,"retrieveBytes":100,"retrieveFiles":1,"tries":3},"policies":[{"archiveMinAge":10,"archivePriority":1,"name":"std","retrieveMinAge":10,"retrievePriority":1}],"pools":[{"name":"p1","vo":"atlas"}],"repackPolicy":"std","routes":[{"class":"raw","copy":1,"pool":"p1"}],"sitename":"T1","tapes":[{"capacity":1000,"library":"L1","pool":"p1","state":"ACTIVE","vid":"V1"}],"version":1,"vos":[{"name":"atlas","readDrives":1,"writeDrives":1}]}"#;
 
 // A medium that tells no records.
 #[derive(Drop)]
@@ -34,8 +36,31 @@ fn site_of(alloc: Global) -> Option<ValidSite> {
     }
 }
 
-fn desk_of(alloc: Global) -> Option<Desk<Blank>> {
-    Desk::new(alloc, site_of(alloc)?).ok()
+// A medium for one tape.
+fn media_of(alloc: Global) -> Option<Vec<Blank>>
+    ensures { IfSome result (λ media. length media.items ≡ 1) }
+{
+    let mut media = Vec::new(alloc);
+    media.push(Blank).ok()?;
+    Some(media)
+}
+
+// An archive of a site with one tape and some drive.
+fn archive_of(alloc: Global, keys: RandomState) -> Option<Archive<Blank>>
+    ensures { IfSome result (λ archive. 0 < length archive.site.drives.items) }
+{
+    let site = site_of(alloc)?;
+    if site.drives().len() < 1 {
+        return None;
+    }
+    if site.tapes().len() != 1 {
+        return None;
+    }
+    let media = media_of(alloc)?;
+    match Archive::new(alloc, site, media, keys) {
+        Ok(archive) => Some(archive),
+        Err(_) => None,
+    }
 }
 
 fn text(alloc: Global, text: &str) -> Result<Text, AllocError> {
@@ -93,18 +118,39 @@ fn both_on_disk(back: &ArchiveBack<Blank>) -> bool {
     }
 }
 
-// A hall over an archive, with two passes.
-fn two_passes(alloc: Global) -> Option<(Hall<Desk<Blank>>, Pass<Desk<Blank>>, Pass<Desk<Blank>>)>
-    ensures { IfSome result (λ r. IsPassOf ⟦<Desk<Blank> as Keeps>⟧.site r.0 r.1 × IsPassOf ⟦<Desk<Blank> as Keeps>⟧.site r.0 r.2 × (r.1.seats + r.2.seats ≡ seats_in r.0)) }
+// A hall over a value, with two passes. Want of memory gives the value back.
+fn two_passes<T: Keeps>(alloc: Global, value: T) -> Result<(Hall<T>, Pass<T>, Pass<T>), T>
+    ensures hall { IfOk result (λ r. first_of r.0 ≡ value) }
+    ensures passes { IfOk result (λ r. IsPassOf T.site r.0 r.1 × IsPassOf T.site r.0 r.2 × (r.1.seats + r.2.seats ≡ seats_in r.0)) }
 {
-    let desk = desk_of(alloc)?;
-    match Hall::new(alloc, desk, 2) {
-        Ok((hall, mut first)) => match hall.split(&mut first) {
-            Some(second) => Some((hall, first, second)),
-            None => None,
-        },
-        Err(_) => None,
+    match Hall::new(alloc, value, 2) {
+        Ok((hall, mut first)) => {
+            let Some(second) = hall.split(&mut first) else {
+                unreachable!()
+            };
+            Ok((hall, first, second))
+        }
+        Err((_, value)) => Err(value),
     }
+}
+
+// One thread puts a file, and then another: how many turns the first one's pass is told of, and the pass of both.
+fn in_turn<R: Threads + Wait + Sync, T: Serves + Send>(
+    rt: &R,
+    hall: &Hall<T>,
+    passes: (Pass<T>, Pass<T>),
+    puts: (Put, Put),
+) -> (u64, Pass<T>)
+    requires { IsPassOf T.site hall.now passes.0 × IsPassOf T.site hall.now passes.1 }
+    ensures here { IsPassOf T.site hall.now result.1 }
+    ensures seats { result.1.seats ≡ passes.0.seats + passes.1.seats }
+{
+    let (first, second) = passes;
+    let (a, b) = puts;
+    let (mut first, second) = one_then_other(rt, hall, first, second, a, b);
+    let passed = hall.passed(&mut first);
+    hall.join(&mut first, second);
+    (passed, first)
 }
 
 // Whether an ask was refused since the history is full.
@@ -115,15 +161,30 @@ fn is_full(back: &ArchiveBack<Blank>) -> bool {
     matches!(answer, Answer::Refused(Refusal::HistoryFull))
 }
 
+// Whether a drive mounts the site's tape to write to it, and its mount is numbered by this entry.
+fn mounts(back: &ArchiveBack<Blank>, entry: u32) -> bool {
+    let ArchiveBack::Ask(Ok((answer, _))) = back else {
+        return false;
+    };
+    match answer {
+        Answer::Mounted {
+            mount,
+            direction: Direction::Archive,
+            tape: 0,
+        } => *mount == entry,
+        _ => false,
+    }
+}
+
 // Whether both files are on disk, as the pass is told in a turn.
 fn sees_both(
     rt: &impl Wait,
-    hall: &Hall<Desk<Blank>>,
-    pass: &mut Pass<Desk<Blank>>,
+    hall: &Hall<Archive<Blank>>,
+    pass: &mut Pass<Archive<Blank>>,
     look: Look,
 ) -> bool
-    requires { IsPassOf ⟦<Desk<Blank> as Keeps>⟧.site hall.now pass.old }
-    ensures here { IsPassOf ⟦<Desk<Blank> as Keeps>⟧.site hall.now pass.new }
+    requires { IsPassOf ⟦<Archive<Blank> as Keeps>⟧.site hall.now pass.old }
+    ensures here { IsPassOf ⟦<Archive<Blank> as Keeps>⟧.site hall.now pass.new }
     ensures seats { pass.new.seats ≡ pass.old.seats }
 {
     both_on_disk(&hall.turn(rt, pass, ArchiveCall::Look { at: 100, look }))
@@ -132,51 +193,93 @@ fn sees_both(
 // Whether a further file is refused since the history is full.
 fn is_filled(
     rt: &impl Wait,
-    hall: &Hall<Desk<Blank>>,
-    pass: &mut Pass<Desk<Blank>>,
+    hall: &Hall<Archive<Blank>>,
+    pass: &mut Pass<Archive<Blank>>,
     put: Put,
 ) -> bool
-    requires { IsPassOf ⟦<Desk<Blank> as Keeps>⟧.site hall.now pass.old }
-    ensures here { IsPassOf ⟦<Desk<Blank> as Keeps>⟧.site hall.now pass.new }
+    requires { IsPassOf ⟦<Archive<Blank> as Keeps>⟧.site hall.now pass.old }
+    ensures here { IsPassOf ⟦<Archive<Blank> as Keeps>⟧.site hall.now pass.new }
     ensures seats { pass.new.seats ≡ pass.old.seats }
 {
     let Put { who, path, blob } = put;
     is_full(&put_file(rt, hall, pass, 100, who, path, blob))
 }
 
-// One thread puts a file, and then another: how many turns the first one's pass is told of, and whether there are two entries.
-fn told_in_turn<R: Threads + Wait + Sync>(rt: &R, alloc: Global) -> Option<(u64, bool)> {
-    let (a, b) = two_puts(alloc)?;
+// A drive is asked, and then a file is put: whether the drive mounts with the third entry, and whether the history is full then.
+fn asks_and_fills(
+    rt: &impl Wait,
+    hall: &Hall<Archive<Blank>>,
+    pass: &mut Pass<Archive<Blank>>,
+    put: Put,
+) -> (bool, bool)
+    requires here { IsPassOf ⟦<Archive<Blank> as Keeps>⟧.site hall.now pass.old }
+    requires drive { 0 < length (first_of hall.now).site.drives.items }
+    ensures here { IsPassOf ⟦<Archive<Blank> as Keeps>⟧.site hall.now pass.new }
+    ensures seats { pass.new.seats ≡ pass.old.seats }
+{
+    let mounted = mounts(&ask_next(rt, hall, pass, 100, 0), 3);
+    let filled = is_filled(rt, hall, pass, put);
+    (mounted, filled)
+}
+
+// One thread puts a file, and then another, and then a drive is asked: how many turns the first one's pass is told of, whether the drive
+// mounts with the third entry, and whether the history is full then.
+fn told_in_turn<R: Threads + Wait + Sync>(
+    rt: &R,
+    alloc: Global,
+    keys: RandomState,
+) -> Option<(u64, bool, bool)> {
+    let puts = two_puts(alloc)?;
     let c = put_of(alloc, "/atlas/c")?;
-    let (hall, first, second) = two_passes(alloc)?;
-    let (mut first, second) = one_then_other(rt, &hall, first, second, a, b);
-    let passed = hall.passed(&mut first);
-    hall.join(&mut first, second);
-    let filled = is_filled(rt, &hall, &mut first, c);
-    hall.close(first);
-    Some((passed, filled))
+    let archive = archive_of(alloc, keys)?;
+    match two_passes(alloc, archive) {
+        Ok((hall, first, second)) => {
+            let (passed, mut all) = in_turn(rt, &hall, (first, second), puts);
+            let (mounted, filled) = asks_and_fills(rt, &hall, &mut all, c);
+            hall.close(all).let_go();
+            Some((passed, mounted, filled))
+        }
+        Err(archive) => {
+            archive.let_go();
+            None
+        }
+    }
 }
 
 // Two threads put a file each at once: whether both files are there.
-fn told_at_once<R: Threads + Wait + Sync>(rt: &R, alloc: Global) -> Option<bool> {
+fn told_at_once<R: Threads + Wait + Sync>(
+    rt: &R,
+    alloc: Global,
+    keys: RandomState,
+) -> Option<bool> {
     let (a, b) = two_puts(alloc)?;
     let look = look_of(alloc)?;
-    let (hall, first, second) = two_passes(alloc)?;
-    let mut all = both(rt, &hall, first, second, a, b);
-    let seen = sees_both(rt, &hall, &mut all, look);
-    hall.close(all);
-    Some(seen)
+    let archive = archive_of(alloc, keys)?;
+    match two_passes(alloc, archive) {
+        Ok((hall, first, second)) => {
+            let mut all = both(rt, &hall, first, second, a, b);
+            let seen = sees_both(rt, &hall, &mut all, look);
+            hall.close(all).let_go();
+            Some(seen)
+        }
+        Err(archive) => {
+            archive.let_go();
+            None
+        }
+    }
 }
 
-// The history has room for two entries. A hall that is one mutex round everything tells the first pass of its own turn alone.
+// The history has room for three entries. A hall that is one mutex round everything tells the first pass of its own turn alone.
 #[test]
 fn passed_tells_of_turns_of_others(rt: HostRuntime) -> Result<(), Fail> {
-    assert_eq!(rt; told_in_turn(&rt, rt.alloc()), Some((2, true)));
+    let keys = RandomState::new(&rt)?;
+    assert_eq!(rt; told_in_turn(&rt, rt.alloc(), keys), Some((2, true, true)));
     Ok(())
 }
 
 #[test]
 fn two_threads_put_one_file_each(rt: HostRuntime) -> Result<(), Fail> {
-    assert_eq!(rt; told_at_once(&rt, rt.alloc()), Some(true));
+    let keys = RandomState::new(&rt)?;
+    assert_eq!(rt; told_at_once(&rt, rt.alloc(), keys), Some(true));
     Ok(())
 }

@@ -8,8 +8,10 @@ mod words;
 
 use crate::report::{complain, number};
 use crate::words::{site_path, words};
+use media::MemBench;
 use outside::{FileSource, StdSink, StdSource};
 use replay::{Status, replay_top};
+use std::hash::RandomState;
 use std::process::ExitCode;
 
 // Runs over the real ends: the file that the words name, standard input and standard output.
@@ -25,7 +27,20 @@ fn run(rt: &HostRuntime) -> Status {
     let mut site = FileSource::open(rt, path);
     let mut script = StdSource::new(rt);
     let mut out = StdSink::new(rt);
-    replay_top(rt.alloc(), &words, &mut site, &mut script, &mut out)
+    let mut bench = MemBench::new(rt.alloc());
+    // Where the machine gives no random bytes, paths can't be hashed with keys of their own.
+    let Ok(keys) = RandomState::new(rt) else {
+        return Status::NoMemory;
+    };
+    replay_top(
+        rt.alloc(),
+        &words,
+        &mut site,
+        &mut script,
+        &mut out,
+        &mut bench,
+        keys,
+    )
 }
 
 fn main(rt: HostRuntime) -> ExitCode {

@@ -1,17 +1,20 @@
 -- A whole script is read to its line `end`.
-use Rattle.std.proofs.Common.{◌≡◌, ℕ, ◌+◌, ◌<◌, ◌⊎◌, inl, inr, List, [], ◌++◌, length, codes, map, Option, None, Some, refl, sym, ap, ◌∙◌, subst, arith, append_assoc, append-nil, length-append}
+use Rattle.std.proofs.Common.{◌≡◌, Bool, ℕ, ◌+◌, ◌<◌, ◌⊎◌, inl, inr, List, [], ◌++◌, length, codes, map, Option, None, Some, refl, sym, ap, ◌∙◌, subst, arith, append_assoc, append-nil, length-append}
 use Rattle.std.specs.Io.KnownBytes.{Consumes, IsAtEnd}
 use Rattle.std.proofs.lemmas.List.{append_cancel_left}
 use Rattle.outside.specs.Causes.{Rose}
 use Rattle.cta_site.specs.declared.site.Site.{Site}
+use Rattle.cta_site.specs.WellFormed.{IsWellFormed}
 use Rattle.cta_model.specs.Legal.{IsLegal}
 use Rattle.links.specs.Run.{IsRun}
 use Rattle.replay.specs.Seen.{SourceView, SinkView, World, world, unread}
-use Rattle.replay.specs.Script.{Record, ScriptCut, ScriptTail, Ended, MayGoOn, IsRefusedAt, IsUnbuilt, ended, whole_bytes, tail_bytes, tail_records, cut_bytes, cut_records, InLine, InBytes, BadLine, LongLine, NoLf, UnbuiltStep}
+use Rattle.replay.specs.Script.{Record, ScriptCut, ScriptTail, Ended, MayGoOn, IsRefusedAt, ended, whole_bytes, tail_bytes, tail_records, cut_bytes, cut_records, InLine, InBytes, BadLine, LongLine, NoLf}
 use Rattle.replay.specs.Run.{ScriptTurn, record_of, links_turns, all_happenings}
-use Rattle.replay.specs.Output.{fresh, history_of_run}
+use Rattle.media.specs.Drives.{DriveView}
+use Rattle.replay.specs.Output.{history_of_run}
+use Rattle.replay.specs.Steps.{begun_with}
 use Rattle.replay.specs.Intake.{Took, budget}
-use Rattle.replay.specs.Outcome.{Wrote, EndsScript, Finishes, Replays, ReachesEnd, IsReadWhole, RunsToEnd}
+use Rattle.replay.specs.Outcome.{AreNewDrives, Wrote, EndsScript, Finishes, IsNotBuilt, Replays, ReachesEnd, IsReadWhole, RunsToEnd}
 use Rattle.replay.specs.declared.status.Status.{Status}
 use Rattle.replay.specs.declared.status.Status.TheVariants.{Ok, Usage, Site as SiteRule, Script, ReadFault, WriteFault, NoMemory, TooLong, ListenFault, NotBuilt}
 use Rattle.replay.proofs.Readings.{StopsWithin, stops_before_end}
@@ -40,24 +43,11 @@ open_not_refused (InBytes link moment len held) at o r = r
 open_not_refused (BadLine line) at o r = o
 open_not_refused (LongLine part) at o r = o
 open_not_refused (NoLf link moment bytes byte) at o r = o
-open_not_refused (UnbuiltStep drive moment) at o r = o
-
-open_not_unbuilt : (t : ScriptTail) → MayGoOn t → IsUnbuilt t → ⊥
-open_not_unbuilt Ended o r = o
-open_not_unbuilt (InLine part) o r = r
-open_not_unbuilt (InBytes link moment len held) o r = r
-open_not_unbuilt (BadLine line) o r = o
-open_not_unbuilt (LongLine part) o r = o
-open_not_unbuilt (NoLf link moment bytes byte) o r = o
-open_not_unbuilt (UnbuiltStep drive moment) o r = o
 
 ended_not_refused : (t : ScriptTail) (at : ℕ) → t ≡ Ended → IsRefusedAt t at → ⊥
 ended_not_refused t at e r = subst (λ s. IsRefusedAt s at) e r
 
-ended_not_unbuilt : (t : ScriptTail) → t ≡ Ended → IsUnbuilt t → ⊥
-ended_not_unbuilt t e r = subst IsUnbuilt e r
-
-module _ (site : Site) (records : List Record) (rest : List ℕ) (from to : SourceView) (p q : SinkView) (taken : ℕ) (reaches : ReachesEnd site from.left records rest) where
+module _ (tells : Bool) (site : Site) (valid : IsWellFormed site) (seen : List DriveView) (drives : AreNewDrives tells site seen) (records : List Record) (rest : List ℕ) (from to : SourceView) (p q : SinkView) (taken : ℕ) (reaches : ReachesEnd site from.left records rest) where
   abbrev a : World
   a = world (unread from) p
 
@@ -65,10 +55,10 @@ module _ (site : Site) (records : List Record) (rest : List ℕ) (from to : Sour
   b = world (record { left = to.left; taken = taken; faults = to.faults }) q
 
   abbrev IsWhole : Type 0
-  IsWhole = IsReadWhole site records rest to p q
+  IsWhole = IsReadWhole tells site records rest to p q
 
   -- an ending at a place where more may come leaves more, and is below the budget
-  open_goes_on : (c : ScriptCut) → StopsWithin site c.whole records c.tail → MayGoOn c.tail → Takes site records rest c to.left → Took a.script b.script (cut_bytes site c)
+  open_goes_on : (c : ScriptCut) → StopsWithin site valid c.whole records c.tail → MayGoOn c.tail → Takes site records rest c to.left → Took a.script b.script (cut_bytes site c)
       → (IsAtEnd to.left → ⊥) × (taken < budget)
   open_goes_on c (inl p) o t took = absurd (not_both c.tail o p.1)
   open_goes_on c (inr p) o t took =
@@ -83,19 +73,19 @@ module _ (site : Site) (records : List Record) (rest : List ℕ) (from to : Sour
   same_cut : (c : ScriptCut) → c.whole ≡ records → c.tail ≡ Ended → cut_records c ≡ records
   same_cut c e d = ap (λ l. l ++ tail_records c.tail) e ∙ ap (λ u. records ++ tail_records u) d ∙ append-nil records
 
-  at_end : (c : ScriptCut) (turns : List ScriptTurn) → Takes site records rest c to.left → StopsWithin site c.whole records c.tail → c.tail ≡ Ended → map record_of turns ≡ cut_records c
-      → IsRun site.limits.file (links_turns turns) → Wrote (fresh site) p q (all_happenings turns) → IsLegal site (history_of_run site turns) → IsWhole
+  at_end : (c : ScriptCut) (turns : List ScriptTurn) → Takes site records rest c to.left → StopsWithin site valid c.whole records c.tail → c.tail ≡ Ended → map record_of turns ≡ cut_records c
+      → IsRun site.limits.file (links_turns turns) → Wrote (begun_with site seen) p q (all_happenings turns) → IsLegal site (history_of_run site seen turns) → IsWhole
   at_end c turns t (inr p) e brought run w legal = absurd (not_both c.tail p.0 e)
   at_end c turns t (inl p) e brought run w legal =
       let front : whole_bytes site records ++ (ended (codes "end") ++ t.after) ≡ whole_bytes site c.whole ++ (tail_bytes site c.tail ++ t.after) =
       ap (λ es. whole_bytes site es ++ (ended (codes "end") ++ t.after)) (sym p.0) ∙ ap (λ u. whole_bytes site c.whole ++ (tail_bytes site u ++ t.after)) (sym e) in
       let both = append_cancel_left (whole_bytes site records) (ended (codes "end") ++ t.after) (ended (codes "end") ++ rest) (front ∙ t.split) in
       let same : t.after ≡ rest = append_cancel_left (ended (codes "end")) t.after rest both in
-      record { left = t.told ∙ ap Some same; turns = turns; run = (brought ∙ same_cut c p.0 e, run); wrote = w; legal = legal }
+      record { left = t.told ∙ ap Some same; seen = seen; drives = drives; turns = turns; run = (brought ∙ same_cut c p.0 e, run); wrote = w; legal = legal }
 
-  by_status : (status : Status) (c : ScriptCut) (turns : List ScriptTurn) → StopsWithin site c.whole records c.tail → Takes site records rest c to.left → Took a.script b.script (cut_bytes site c)
-      → map record_of turns ≡ cut_records c → IsRun site.limits.file (links_turns turns) → IsLegal site (history_of_run site turns) → EndsScript status (fresh site) a b c (all_happenings turns)
-      → (Rose from.faults to.faults → ⊥) → (Rose p.faults q.faults → ⊥) → ((status ≡ Ok) × IsWhole) ⊎ (status ≡ NoMemory)
+  by_status : (status : Status) (c : ScriptCut) (turns : List ScriptTurn) → StopsWithin site valid c.whole records c.tail → Takes site records rest c to.left → Took a.script b.script (cut_bytes site c)
+      → map record_of turns ≡ cut_records c → IsRun site.limits.file (links_turns turns) → IsLegal site (history_of_run site seen turns) → EndsScript status (begun_with site seen) a b c (all_happenings turns)
+      → (Rose from.faults to.faults → ⊥) → (Rose p.faults q.faults → ⊥) → ((status ≡ Ok) × IsWhole) ⊎ (IsNotBuilt status ⊎ (status ≡ NoMemory))
   by_status Ok c turns s t took brought run legal e no_read no_write = inl (refl, at_end c turns t s e.0 brought run e.1 legal)
   by_status Usage c turns s t took brought run legal e no_read no_write = absurd e
   by_status (SiteRule rule item) c turns s t took brought run legal e no_read no_write = absurd e
@@ -104,19 +94,18 @@ module _ (site : Site) (records : List Record) (rest : List ℕ) (from to : Sour
   by_status (Script offset) c turns s t took brought run legal (inr o, w) no_read no_write = absurd ((open_goes_on c s o.0 t took).0 o.1)
   by_status ReadFault c turns s t took brought run legal e no_read no_write = absurd (no_read e.1)
   by_status WriteFault c turns s t took brought run legal e no_read no_write = absurd (no_write e.1)
-  by_status NoMemory c turns s t took brought run legal e no_read no_write = inr refl
+  by_status NoMemory c turns s t took brought run legal e no_read no_write = inr (inr refl)
   by_status TooLong c turns s t took brought run legal e no_read no_write = let n = (open_goes_on c s e.0 t took).1 in absurd (omega (arith, e.1))
-  by_status (NotBuilt offset) c turns (inl p) t took brought run legal e no_read no_write = absurd (ended_not_unbuilt c.tail p.1 e.0.0)
-  by_status (NotBuilt offset) c turns (inr p) t took brought run legal e no_read no_write = absurd (open_not_unbuilt c.tail p.0 e.0.0)
+  by_status (NotBuilt offset) c turns s t took brought run legal e no_read no_write = inr (inl tt)
   by_status ListenFault c turns s t took brought run legal e no_read no_write = absurd e
 
-  completes : (status : Status) (f : Finishes (fresh site) [] a b status) → IsLegal site (history_of_run site f.turns) → (Rose from.faults to.faults → ⊥) → (Rose p.faults q.faults → ⊥)
-      → ((status ≡ Ok) × IsWhole) ⊎ (status ≡ NoMemory)
+  completes : (status : Status) (f : Finishes (begun_with site seen) [] a b status) → IsLegal site (history_of_run site seen f.turns) → (Rose from.faults to.faults → ⊥) → (Rose p.faults q.faults → ⊥)
+      → ((status ≡ Ok) × IsWhole) ⊎ (IsNotBuilt status ⊎ (status ≡ NoMemory))
   completes status f legal no_read no_write =
       let t = takes site records rest f.cut from.left to.left reaches.spelled f.took.bytes in
-      let s = stops_before_end site f.cut.whole records f.cut.tail t.after rest f.is_cut.0 reaches.each f.is_cut.1 t.split in
+      let s = stops_before_end site valid f.cut.whole records f.cut.tail t.after rest f.is_cut.0 reaches.each f.is_cut.1 t.split in
       by_status status f.cut f.turns s t f.took f.brought f.run legal f.ends no_read no_write
 
-pub RunsToEnd-from_replays : (status : Status) (site : Site) (from to : SourceView) (a b : SinkView) → Replays status site from to a b → RunsToEnd status site from to a b
-RunsToEnd-from_replays status site from to a b r = λ records rest reaches no_read no_write.
-    completes site records rest from to a b r.taken reaches status r.finishes r.legal no_read no_write
+pub RunsToEnd-from_replays : (tells : Bool) (status : Status) (site : Site) (from to : SourceView) (a b : SinkView) → Replays tells status site from to a b → RunsToEnd tells status site from to a b
+RunsToEnd-from_replays tells status site from to a b r = λ records rest reaches no_read no_write.
+    completes tells site r.valid r.seen r.drives records rest from to a b r.taken reaches status r.finishes r.legal no_read no_write

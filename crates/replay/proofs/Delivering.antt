@@ -1,6 +1,6 @@
 -- The bytes of a record, fed piece by piece.
 use Rattle.std.proofs.Common.{◌≡◌, ℕ, ◌+◌, ◌-◌, ◌≤◌, List, [], ◌∷◌, ◌++◌, length, Ok, Err, OnOk, refl, sym, ap, ◌∙◌, subst, arith, append-nil, length-append}
-use Rattle.cta_model.specs.Kept.{Kept}
+use Rattle.replay.specs.Steps.{RunState}
 use Rattle.conn.specs.Cut.{Event}
 use Rattle.links.specs.Run.{Turn, IsRun}
 use Rattle.links.specs.Standing.{StandFor, LinksStand}
@@ -18,7 +18,7 @@ use Rattle.replay.proofs.Taking.{Took-trans, Took-none}
 use Rattle.replay.proofs.Writing.{after-behind, wrote_behind, wrote_none, answered_on-append, events_of-append, unwritten_behind}
 
 -- so many bytes of a record are still wanted, and those that came were fed and answered
-pub record Going (links' : Links) (kept now : Kept) (before : List Turn) (link moment wanted len : ℕ) (a b : World) : Type 0 where
+pub record Going (links' : Links) (kept now : RunState) (before : List Turn) (link moment wanted len : ℕ) (a b : World) : Type 0 where
   pub bytes : List ℕ
   pub exchanges : List Exchange
   pub took : Took a.script b.script bytes
@@ -27,12 +27,12 @@ pub record Going (links' : Links) (kept now : Kept) (before : List Turn) (link m
   pub wrote : Wrote kept a.out b.out (answered_on link moment exchanges)
   pub keeps : now ≡ after kept (answered_on link moment exchanges)
 
-pub going_none : (links' : Links) (k : Kept) (before : List Turn) (link moment len : ℕ) (a : World) → StandFor links' k.site.limits.file (before ++ turn_with link moment [] [] ∷ []) → Going links' k k before link moment len len a a
+pub going_none : (links' : Links) (k : RunState) (before : List Turn) (link moment len : ℕ) (a : World) → StandFor links' k.site.limits.file (before ++ turn_with link moment [] [] ∷ []) → Going links' k k before link moment len len a a
 going_none links' k before link moment len a stands =
     record { bytes = []; exchanges = []; took = Took-none a.script; count = omega arith; stands = stands; wrote = wrote_none k a.out; keeps = refl }
 
 -- links that stand for all that they stood for
-pub going_roomy : (links' links'' : Links) (k n : Kept) (before : List Turn) (link moment wanted len : ℕ) (a b : World)
+pub going_roomy : (links' links'' : Links) (k n : RunState) (before : List Turn) (link moment wanted len : ℕ) (a b : World)
     → ((limit : ℕ) (fed : ℕ → List ℕ) (given : ℕ → List Event) → LinksStand links' limit fed given → LinksStand links'' limit fed given)
     → Going links' k n before link moment wanted len a b → Going links'' k n before link moment wanted len a b
 going_roomy links' links'' k n before link moment wanted len a b same s = record {
@@ -45,12 +45,12 @@ going_roomy links' links'' k n before link moment wanted len a b same s = record
   keeps = s.keeps;
 }
 
-module _ (links' : Links) (k n : Kept) (before : List Turn) (link moment wanted len : ℕ) (a m : World) (s : Going links' k n before link moment wanted len a m) where
+module _ (links' : Links) (k n : RunState) (before : List Turn) (link moment wanted len : ℕ) (a m : World) (s : Going links' k n before link moment wanted len a m) where
   abbrev done : List Happening
   done = answered_on link moment s.exchanges
 
   -- a further piece was taken and fed
-  module _ (links'' : Links) (now : Kept) (piece : List ℕ) (script' : ScriptView) (out' : SinkView) (took : Took m.script script' piece) (fits : length piece ≤ wanted) where
+  module _ (links'' : Links) (now : RunState) (piece : List ℕ) (script' : ScriptView) (out' : SinkView) (took : Took m.script script' piece) (fits : length piece ≤ wanted) where
     abbrev b : World
     b = world script' out'
 

@@ -1,5 +1,5 @@
 -- The names of a site's drives.
-use Rattle.std.proofs.Common.{◌≡◌, ◌≢◌, ℕ, zero, suc, ◌+◌, ◌<◌, Bool, true, false, cond, List, [], ◌∷◌, length, map, get_or, Option, None, Some, refl, sym, ap, ◌∙◌, subst, arith, bytes_eq, MatchOption}
+use Rattle.std.proofs.Common.{◌≡◌, ◌≢◌, ℕ, zero, suc, ◌+◌, ◌<◌, ◌≤◌, Bool, true, false, cond, List, [], ◌∷◌, length, map, get_or, Option, None, Some, refl, sym, ap, ◌∙◌, subst, arith, bytes_eq, MatchOption}
 use Rattle.std.specs.Prelude.{IsTrue}
 use Rattle.std.specs.List.{AllByRecursion, position_from}
 use Rattle.std.proofs.lemmas.List.Quantifiers.{position-Some}
@@ -70,6 +70,12 @@ pub Without-drive : (c : ℕ) (site : Site) (drive : ℕ) → is_name_byte c ≡
 Without-drive c site drive other valid h =
     let name : IsName (drive_name site drive) = holds_at IsName (drive_names site) drive [] valid.names.drives (omega (arith, length-names site.drives.items)) in
     plain_bytes c (drive_name site drive) other name.bytes
+
+-- it is short
+pub length-drive : (site : Site) (drive : ℕ) → IsWellFormed site → drive < length site.drives.items → length (drive_name site drive) ≤ 64
+length-drive site drive valid h =
+    let name : IsName (drive_name site drive) = holds_at IsName (drive_names site) drive [] valid.names.drives (omega (arith, length-names site.drives.items)) in
+    name.at_most
 
 -- no two names that ascend are equal
 never_below_itself : (a : List ℕ) → slice_cmp nat_cmp a a ≡ Less → ⊥

@@ -1,6 +1,6 @@
 -- How a script ends in a record's bytes: what the parts of a reading make of it.
 use Rattle.std.proofs.Common.{◌≡◌, ℕ, ◌+◌, ◌-◌, ◌≤◌, inl, inr, List, [], ◌∷◌, ◌++◌, length, Option, None, Some, refl, sym, subst, arith, append-nil, append_assoc, length-append}
-use Rattle.cta_model.specs.Kept.{Kept}
+use Rattle.replay.specs.Steps.{RunState}
 use Rattle.links.specs.Run.{Turn, IsRun, IsRunBehind}
 use Rattle.links.specs.Laws.{RunsFollow}
 use Rattle.links.specs.Standing.{StandFor}
@@ -8,8 +8,8 @@ use Rattle.links.specs.declared.links.Links.{Links}
 use Rattle.replay.specs.Seen.{World, begun}
 use Rattle.replay.specs.Line.{http_text, IsHttp}
 use Rattle.replay.specs.Script.{ScriptCut, InBytes, NoLf, MayGoOn, ended}
-use Rattle.replay.specs.Run.{Exchange, Happening, ScriptTurn, OnLink, all_happenings, answered_on, events_of, turn_with}
-use Rattle.replay.specs.Output.{after}
+use Rattle.replay.specs.Run.{Exchange, Happening, Answered, ScriptTurn, OnLink, all_happenings, answered_on, events_of, turn_with}
+use Rattle.replay.specs.Output.{AskFitly, after, run_behind}
 use Rattle.replay.specs.Intake.{Took, HasStopped}
 use Rattle.replay.specs.Outcome.{Wrote, EndsScript, IsUnwritten, FinishesAfter, TurnsAfter, TookLf, stop_status, unwritten_status}
 use Rattle.replay.specs.declared.intake.Stop.{Stop}
@@ -21,25 +21,33 @@ use Rattle.replay.proofs.Taking.{Took-trans}
 use Rattle.replay.proofs.Delivering.{stopped_since}
 use Rattle.replay.proofs.Writing.{first_all}
 
-pub EndsScript-stopped : (why : Stop) (k : Kept) (a b : World) (c : ScriptCut) (happened : List Happening) → MayGoOn c.tail → HasStopped why a.script b.script → Wrote k a.out b.out happened
+pub EndsScript-stopped : (why : Stop) (k : RunState) (a b : World) (c : ScriptCut) (happened : List Happening) → MayGoOn c.tail → HasStopped why a.script b.script → Wrote k a.out b.out happened
     → EndsScript (stop_status why b.script.taken) k a b c happened
 EndsScript-stopped End k a b c happened more stop wrote = (inr (more, stop.0, stop.1, refl), wrote)
 EndsScript-stopped Fault k a b c happened more stop wrote = (more, stop.0, stop.1, wrote)
 EndsScript-stopped Full k a b c happened more stop wrote = (more, stop, wrote)
 EndsScript-stopped Memory k a b c happened more stop wrote = (more, first_all k a.out b.out happened wrote)
 
-EndsScript-unwritten : (why : Unwritten) (k : Kept) (a b : World) (c : ScriptCut) (happened : List Happening) → MayGoOn c.tail → IsUnwritten why k a.out b.out happened → EndsScript (unwritten_status why) k a b c happened
+EndsScript-unwritten : (why : Unwritten) (k : RunState) (a b : World) (c : ScriptCut) (happened : List Happening) → MayGoOn c.tail → IsUnwritten why k a.out b.out happened → EndsScript (unwritten_status why) k a b c happened
 EndsScript-unwritten Broken k a b c happened more h = (more, h.1, h.0)
 EndsScript-unwritten Wanting k a b c happened more h = (more, h)
 
 abbrev pub http_line : ℕ → ℕ → ℕ → List ℕ
 http_line link moment len = ended (http_text link moment len)
 
+-- what is answered on a link asks for no drive
+pub exchanges_ask_fitly : (k : RunState) (link moment : ℕ) (exchanges : List Exchange) → AskFitly k (answered_on link moment exchanges)
+exchanges_ask_fitly k link moment [] = tt
+exchanges_ask_fitly k link moment (x ∷ xs) = (tt, exchanges_ask_fitly (run_behind k (Answered link moment x)) link moment xs)
+
 -- the one turn of a record
 one_happened : (link moment : ℕ) (bytes : List ℕ) (exchanges : List Exchange) → all_happenings (OnLink link moment bytes exchanges ∷ []) ≡ answered_on link moment exchanges
 one_happened link moment bytes exchanges = append-nil (answered_on link moment exchanges)
 
-module _ (follow : RunsFollow) (k : Kept) (before : List Turn) (link moment : ℕ) (bytes : List ℕ) (exchanges : List Exchange)
+answers_ask_fitly : (k : RunState) (link moment : ℕ) (bytes : List ℕ) (exchanges : List Exchange) → AskFitly k (all_happenings (OnLink link moment bytes exchanges ∷ []))
+answers_ask_fitly k link moment bytes exchanges = subst (AskFitly k) (sym (one_happened link moment bytes exchanges)) (exchanges_ask_fitly k link moment exchanges)
+
+module _ (follow : RunsFollow) (k : RunState) (before : List Turn) (link moment : ℕ) (bytes : List ℕ) (exchanges : List Exchange)
     (run : IsRun k.site.limits.file (before ++ turn_with link moment bytes (events_of exchanges) ∷ [])) where
   abbrev happened : List Happening
   happened = answered_on link moment exchanges
@@ -60,6 +68,7 @@ module _ (follow : RunsFollow) (k : Kept) (before : List Turn) (link moment : �
         turns = OnLink link moment bytes exchanges ∷ [];
         brought = refl;
         run = this_turn;
+        fit = answers_ask_fitly k link moment bytes exchanges;
         ends = subst (EndsScript status k (begun a (http_line link moment len)) b c) (sym (one_happened link moment bytes exchanges)) ends;
       }
 
@@ -102,6 +111,7 @@ module _ (follow : RunsFollow) (k : Kept) (before : List Turn) (link moment : �
         turns = OnLink link moment bytes exchanges ∷ [];
         brought = refl;
         run = this_turn;
+        fit = answers_ask_fitly k link moment bytes exchanges;
         ends = subst (EndsScript status k (begun a line) b c) (sym (one_happened link moment bytes exchanges)) ends;
       }
   no_lf status a m b http room took wrote later (inr (why, lf, stop, e)) =
@@ -109,23 +119,24 @@ module _ (follow : RunsFollow) (k : Kept) (before : List Turn) (link moment : �
       rw e (short_stopped a b (length bytes) why http (omega arith) same (stopped_since why a.script m.script b.script later stop) wrote)
 
   -- the last LF behind all bytes of a record
-  last_lf : (r : Option Status) (links' : Links) (now : Kept) (a m b : World) → IsHttp link moment (length bytes) → length (http_line link moment (length bytes)) ≤ a.script.taken
+  last_lf : (r : Option Status) (links' : Links) (now : RunState) (a m b : World) → IsHttp link moment (length bytes) → length (http_line link moment (length bytes)) ≤ a.script.taken
       → Took a.script m.script bytes → Wrote k a.out b.out happened → StandFor links' k.site.limits.file (before ++ turn_with link moment bytes (events_of exchanges) ∷ []) → now ≡ after k happened
       → a.script.faults ≤ m.script.faults → TookLf r m.script b.script → TurnsAfter r links' k now before (http_line link moment (length bytes)) a b
   last_lf None links' now a m b http room took wrote stands keeps later lf = record {
     turn = OnLink link moment bytes exchanges;
-    is_record = (http, tt);
+    is_record = http;
     rest = bytes ++ 10 ∷ [];
     spelled = append_assoc (http_line link moment (length bytes)) bytes (10 ∷ []);
     took = Took-trans took lf;
     stands = stands;
+    fit = exchanges_ask_fitly k link moment exchanges;
     wrote = wrote;
     keeps = keeps;
   }
   last_lf (Some status) links' now a m b http room took wrote stands keeps later lf = no_lf status a m b http room took wrote later lf
 
   -- the same, where the length is known by an equation
-  pub last_lf_len : (r : Option Status) (links' : Links) (now : Kept) (a m b : World) (len : ℕ) → length bytes ≡ len → IsHttp link moment len → length (http_line link moment len) ≤ a.script.taken
+  pub last_lf_len : (r : Option Status) (links' : Links) (now : RunState) (a m b : World) (len : ℕ) → length bytes ≡ len → IsHttp link moment len → length (http_line link moment len) ≤ a.script.taken
       → Took a.script m.script bytes → Wrote k a.out b.out happened → StandFor links' k.site.limits.file (before ++ turn_with link moment bytes (events_of exchanges) ∷ []) → now ≡ after k happened
       → a.script.faults ≤ m.script.faults → TookLf r m.script b.script → TurnsAfter r links' k now before (http_line link moment len) a b
   last_lf_len r links' now a m b len e http room took wrote stands keeps later lf =

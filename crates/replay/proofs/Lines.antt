@@ -1,32 +1,79 @@
 -- What a reading of a record makes of its line.
-use Rattle.std.proofs.Common.{◌≡◌, ◌≢◌, ℕ, ◌≤◌, inl, List, [], ◌∷◌, ◌++◌, length, codes, Option, None, Some, refl, sym, ap, ◌∙◌, subst, arith}
+use Rattle.std.proofs.Common.{◌≡◌, ◌≢◌, ℕ, ◌≤◌, inl, inr, List, [], ◌∷◌, ◌++◌, length, codes, Option, None, Some, refl, sym, ap, ◌∙◌, subst, arith, append-nil}
+use Rattle.std.specs.Prelude.{slice_get, false}
+use Rattle.std.specs.Io.KnownBytes.{Appends}
+use Rattle.outside.specs.Causes.{Rose}
+use Rattle.outside.specs.Streams.{AppendsFront}
+use Rattle.cta_model.specs.declared.asks.Ask.{Ask}
+use Rattle.cta_model.specs.declared.asks.Item.{Item}
+use Rattle.media.specs.Counted.{no_counts}
+use Rattle.media.specs.Drives.{DriveView}
+use Rattle.drive_session.specs.declared.reports.Call.TheVariants as call
+use Rattle.drive_session.specs.declared.reports.Done.{Done}
+use Rattle.drive_session.specs.declared.reports.Done.TheVariants as done
+use Rattle.drive_session.specs.Table.{Phase, Free, Held, HeldMount, Leaving, Reading, Ready, Row, Writing, reading_row, row_of, writing_row}
+use Rattle.replay.specs.Steps.{DriveState, HasServedRow, HasUnservedAsk, HasUnservedRow, IsAskFit, IsRowFit, IsStepOf, IsUnservedStep, RunState, kept_in, row_at, row_in}
 use Rattle.cta_model.specs.Kept.{Kept}
 use Rattle.links.specs.Run.{Turn}
 use Rattle.links.specs.declared.links.Links.{Links}
 use Rattle.replay.specs.Seen.{SinkView, ScriptView, World, world, begun}
 use Rattle.cta_site.specs.Bytes.{Without}
 use Rattle.replay.specs.Line.{text, IsDriveStep, IsLine}
-use Rattle.replay.specs.Script.{ScriptCut, cut_bytes, cut_records, IsScriptCut, Ended, InLine, BadLine, LongLine, UnbuiltStep}
-use Rattle.replay.specs.Run.{happenings_of, all_happenings}
+use Rattle.links.specs.Standing.{StandFor}
+use Rattle.replay.specs.Script.{OfDrive, ScriptCut, spelling, cut_bytes, cut_records, IsScriptCut, Ended, InLine, BadLine, LongLine}
+use Rattle.replay.specs.Run.{OnDrive, Stepped, happenings_of, all_happenings}
+use Rattle.replay.specs.Output.{run_behind, written_for}
 use Rattle.replay.specs.Intake.{Took, HasStopped}
-use Rattle.replay.specs.Outcome.{Wrote, EndsScript, Finishes, Turns, TurnsAfter, stop_status}
+use Rattle.replay.specs.Outcome.{AnswersRecord, Wrote, EndsScript, Finishes, Turns, TurnsAfter, stop_status}
+use Rattle.replay.specs.StepRecords.{EndsInStep, HasStepped}
 use Rattle.replay.specs.declared.line.Line.{Line}
 use Rattle.replay.specs.declared.line.Line.TheVariants.{Step}
 use Rattle.replay.specs.declared.intake.Stop.{Stop}
 use Rattle.replay.specs.declared.status.Status.{Status}
-use Rattle.replay.specs.declared.status.Status.TheVariants.{Ok, Script, NotBuilt}
+use Rattle.replay.specs.declared.status.Status.TheVariants.{Ok, Script, WriteFault, NoMemory, NotBuilt}
 use Rattle.replay.proofs.Taking.{Took-trans}
-use Rattle.replay.proofs.Writing.{wrote_none}
+use Rattle.replay.proofs.Writing.{first_none, wrote_none}
 use Rattle.replay.proofs.Ending.{EndsScript-stopped}
 use Rattle.replay.proofs.Behind.{EndsScript-behind, IsBefore}
 
+-- ---- an answer that no row of a table has
+
+abbrev unheard : Option Done
+unheard = Some (done.NoMemory call.Load)
+
+abbrev unseen : DriveView
+unseen = record { loaded = false; honest = false; faults = no_counts; plan = None }
+
+no_writing : (x : HeldMount) (items : List Item) (at : ℕ) (o : Option Item) → writing_row x items at o unheard ≡ None
+no_writing x items at None = refl
+no_writing x items at (Some i) = refl
+
+no_reading : (x : HeldMount) (items : List Item) (at : ℕ) (o : Option Item) → reading_row x items at o unheard ≡ None
+no_reading x items at None = refl
+no_reading x items at (Some i) = refl
+
+none_of : (d : ℕ) (p : Phase) → row_of d p unheard ≡ None
+none_of d Free = refl
+none_of d (Held x) = refl
+none_of d (Ready x) = refl
+none_of d (Writing x items at) = no_writing x items at (slice_get items at)
+none_of d (Reading x items at) = no_reading x items at (slice_get items at)
+none_of d (Leaving x) = refl
+
+none_in : (d : ℕ) (o : Option DriveState) → row_in d unheard o ≡ None
+none_in d None = refl
+none_in d (Some x) = none_of d x.phase
+
+no_row : (k : RunState) (d : ℕ) → IsRowFit (kept_in k) (row_at k d unheard)
+no_row k d = subst (IsRowFit (kept_in k)) (sym (none_in d (slice_get k.drives d))) tt
+
 -- ---- a line that ends the reading
 
-module _ (k : Kept) (before : List Turn) (s s' : ScriptView) (out : SinkView) where
+module _ (k : RunState) (before : List Turn) (s s' : ScriptView) (out : SinkView) where
   -- nothing was fed
   ends_there : (c : ScriptCut) (status : Status) → Took s s' (cut_bytes k.site c) → IsScriptCut k.site c → cut_records c ≡ [] → EndsScript status k (world s out) (world s' out) c []
       → Finishes k before (world s out) (world s' out) status
-  ends_there c status took is_cut nothing ends = record { cut = c; is_cut = is_cut; took = took; turns = []; brought = sym nothing; run = tt; ends = ends }
+  ends_there c status took is_cut nothing ends = record { cut = c; is_cut = is_cut; took = took; turns = []; brought = sym nothing; run = tt; fit = tt; ends = ends }
 
   pub line_stopped : (part : List ℕ) (why : Stop) → Without 10 part → length part ≤ 256 → Took s s' part → HasStopped why s s'
       → Finishes k before (world s out) (world s' out) (stop_status why s'.taken)
@@ -49,15 +96,129 @@ module _ (k : Kept) (before : List Turn) (s s' : ScriptView) (out : SinkView) wh
   line_end line e took =
       ends_there (record { whole = []; tail = Ended }) Ok (rw (sym e) at took) (tt, tt) refl (refl, wrote_none k out)
 
-  pub line_step : (line : List ℕ) (drive moment : ℕ) → IsDriveStep k.site drive moment → text k.site (Step drive moment) ≡ line → Took s s' (line ++ 10 ∷ [])
-      → Finishes k before (world s out) (world s' out) (NotBuilt s.taken)
-  line_step line drive moment step e took =
-      ends_there (record { whole = []; tail = UnbuiltStep drive moment }) (NotBuilt s.taken) (subst (λ x. Took s s' (x ++ 10 ∷ [])) (sym e) took) (tt, step) refl
-      ((tt, omega arith), wrote_none k out)
+-- ---- a step
+
+served_fit : (k : Kept) (moment : ℕ) (r : Option Row) → HasServedRow k moment r → IsRowFit k r
+served_fit k moment None h = absurd h
+served_fit k moment (Some r) h = h.fit
+
+unserved_ask_fit : (k : Kept) (o : Option Ask) → HasUnservedAsk k o → IsAskFit k.site k.history o
+unserved_ask_fit k None h = absurd h
+unserved_ask_fit k (Some a) h = h.1
+
+unserved_fit : (k : Kept) (r : Option Row) → HasUnservedRow k r → IsRowFit k r
+unserved_fit k None h = absurd h
+unserved_fit k (Some r) h = unserved_ask_fit k r.ask h
+
+module _ (k : RunState) (before : List Turn) (s s' : ScriptView) (line : List ℕ) (drive moment : ℕ) (step : IsDriveStep k.site drive moment) (said : text k.site (Step drive moment) ≡ line)
+    (took : Took s s' (line ++ 10 ∷ [])) where
+  abbrev whole_line : List ℕ
+  whole_line = spelling k.site (OfDrive drive moment)
+
+  took_line : Took s s' whole_line
+  took_line = subst (λ x. Took s s' (x ++ 10 ∷ [])) (sym said) took
+
+  took_cut : Took s s' ((whole_line ++ []) ++ [])
+  took_cut = subst (Took s s') (sym (append-nil (whole_line ++ []) ∙ append-nil whole_line)) took_line
+
+  -- it was carried out, and its line was written
+  pub step_done : (links : Links) (now : RunState) (done : Option Done) (seen : DriveView) (out out' : SinkView) → StandFor links k.site.limits.file before → IsStepOf k drive moment done seen
+      → now ≡ run_behind k (Stepped drive moment done seen) → Appends out.written out'.written (written_for k (Stepped drive moment done seen)) → AnswersRecord links k now before (world s out) (world s' out')
+  step_done links now done seen out out' stands is keeps wrote = record {
+    turn = OnDrive drive moment done seen;
+    is_record = step;
+    took = took_line;
+    stands = subst (StandFor links k.site.limits.file) (sym (append-nil before)) stands;
+    fit = (served_fit (kept_in k) moment (row_at k drive done) is.row, tt);
+    wrote = record { contents = (is, tt); bytes = subst (Appends out.written out'.written) (sym (append-nil (written_for k (Stepped drive moment done seen)))) wrote };
+    keeps = keeps;
+  }
+
+  -- the script ends in it
+  ends_in_step : (done : Option Done) (seen : DriveView) (out out' : SinkView) (status : Status) → IsRowFit (kept_in k) (row_at k drive done)
+      → EndsScript status k (world s out) (world s' out') (record { whole = OfDrive drive moment ∷ []; tail = InLine [] }) (Stepped drive moment done seen ∷ []) → Finishes k before (world s out) (world s' out') status
+  ends_in_step done seen out out' status fit ends = record {
+    cut = record { whole = OfDrive drive moment ∷ []; tail = InLine [] };
+    is_cut = ((step, tt), (tt, omega arith));
+    took = took_cut;
+    turns = OnDrive drive moment done seen ∷ [];
+    brought = refl;
+    run = tt;
+    fit = (fit, tt);
+    ends = ends;
+  }
+
+  -- it was carried out, and the sink failed before its line was written
+  pub step_broken : (done : Option Done) (seen : DriveView) (out out' : SinkView) → IsStepOf k drive moment done seen → AppendsFront out.written out'.written (written_for k (Stepped drive moment done seen)) → Rose out.faults out'.faults
+      → Finishes k before (world s out) (world s' out') WriteFault
+  step_broken done seen out out' is wrote rose =
+      ends_in_step done seen out out' WriteFault (served_fit (kept_in k) moment (row_at k drive done) is.row) (
+        tt,
+        rose,
+        record {
+          first = Stepped drive moment done seen ∷ [];
+          later = [];
+          parts = refl;
+          contents = (is, tt);
+          bytes = subst (AppendsFront out.written out'.written) (sym (append-nil (written_for k (Stepped drive moment done seen)))) wrote;
+        },
+      )
+
+  -- it was carried out, and memory was wanted for its line
+  pub step_unwritten : (done : Option Done) (seen : DriveView) (out out' : SinkView) → IsStepOf k drive moment done seen → Appends out.written out'.written [] → Finishes k before (world s out) (world s' out') NoMemory
+  step_unwritten done seen out out' is wrote =
+      ends_in_step done seen out out' NoMemory (served_fit (kept_in k) moment (row_at k drive done) is.row)
+      (tt, record { first = []; later = Stepped drive moment done seen ∷ []; parts = refl; wrote = record { contents = tt; bytes = wrote } })
+
+  -- memory was wanted for it
+  pub step_wanting : (out : SinkView) → Finishes k before (world s out) (world s' out) NoMemory
+  step_wanting out =
+      ends_in_step unheard unseen out out NoMemory (no_row k drive) (tt, first_none k out (Stepped drive moment unheard unseen ∷ []))
+
+  -- its ask is not served
+  pub step_unserved : (done : Option Done) (seen : DriveView) (out : SinkView) → IsUnservedStep k drive done seen → Finishes k before (world s out) (world s' out) (NotBuilt s.taken)
+  step_unserved done seen out is =
+      ends_in_step done seen out out (NotBuilt s.taken) (unserved_fit (kept_in k) (row_at k drive done) is.row)
+      (record {
+        records = [];
+        drive = drive;
+        moment = moment;
+        done = done;
+        seen = seen;
+        first = [];
+        whole = refl;
+        tail = refl;
+        parts = refl;
+        unserved = is;
+        offset_is = omega arith;
+        wrote = wrote_none k out;
+      })
+
+  -- the sink as it was has nothing more
+  same_sink : (a b : SinkView) → b ≡ a → Appends a.written b.written []
+  same_sink a b same = subst (λ (v : SinkView). Appends a.written v.written []) (sym same) (wrote_none k a).bytes
+
+  ended_in_step : (status : Status) (out out' : SinkView) → EndsInStep status k s.taken drive moment out out' → Finishes k before (world s out) (world s' out') status
+  ended_in_step status out out' (inl (is, x)) =
+      subst (λ (v : SinkView). Finishes k before (world s out) (world s' v) status) (sym x.silent)
+      (subst (Finishes k before (world s out) (world s' out)) (sym is) (step_unserved x.done x.seen out x.is))
+  ended_in_step status out out' (inr (inl (is, same))) =
+      subst (λ (v : SinkView). Finishes k before (world s out) (world s' v) status) (sym same)
+      (subst (Finishes k before (world s out) (world s' out)) (sym is) (step_wanting out))
+  ended_in_step status out out' (inr (inr (inl (is, x)))) =
+      subst (Finishes k before (world s out) (world s' out')) (sym is) (step_broken x.done x.seen out out' x.is x.not_put.0 x.not_put.1)
+  ended_in_step status out out' (inr (inr (inr (is, x)))) =
+      subst (Finishes k before (world s out) (world s' out')) (sym is) (step_unwritten x.done x.seen out out' x.is (same_sink out out' x.not_put))
+
+  -- what a step's record makes of its line
+  pub line_step : (r : Option Status) (links : Links) (now : RunState) (out out' : SinkView) → StandFor links k.site.limits.file before → HasStepped r k now s.taken drive moment out out'
+      → Turns r links k now before (world s out) (world s' out')
+  line_step None links now out out' stands x = step_done links now x.done x.seen out out' stands x.is x.keeps x.wrote
+  line_step (Some status) links now out out' stands x = ended_in_step status out out' x
 
 -- ---- a line that begins a record
 
-pub line_http : (r : Option Status) (links' : Links) (k now : Kept) (before : List Turn) (s m : ScriptView) (out : SinkView) (b : World) (front line : List ℕ) → front ≡ line ++ 10 ∷ [] → Took s m (line ++ 10 ∷ [])
+pub line_http : (r : Option Status) (links' : Links) (k now : RunState) (before : List Turn) (s m : ScriptView) (out : SinkView) (b : World) (front line : List ℕ) → front ≡ line ++ 10 ∷ [] → Took s m (line ++ 10 ∷ [])
     → s.faults ≤ m.faults → TurnsAfter r links' k now before front (world m out) b → Turns r links' k now before (world s out) b
 line_http None links' k now before s m out b front line e took later h =
     record {
@@ -65,6 +226,7 @@ line_http None links' k now before s m out b front line e took later h =
       is_record = h.is_record;
       took = subst (Took s b.script) (sym (h.spelled ∙ ap (λ x. x ++ h.rest) e)) (Took-trans took h.took);
       stands = h.stands;
+      fit = h.fit;
       wrote = h.wrote;
       keeps = h.keeps;
     }
@@ -85,5 +247,6 @@ line_http (Some status) links' k now before s m out b front line e took later h 
       turns = h.turns;
       brought = h.brought;
       run = h.run;
+      fit = h.fit;
       ends = EndsScript-behind k k [] [] (all_happenings h.turns) (world s out) (begun (world m out) front) b h.cut nothing status h.ends;
     }

@@ -1,11 +1,14 @@
 -- A run over whole records, and its end.
-use Rattle.std.proofs.Common.{◌≡◌, ℕ, ◌<◌, ◌≤◌, Bool, true, false, List, [], ◌∷◌, ◌++◌, length, Option, refl, sym, ap, ◌∙◌, subst, arith, append-nil, append_assoc}
+use Rattle.std.proofs.Common.{◌≡◌, ℕ, ◌<◌, ◌≤◌, Bool, true, false, List, [], ◌∷◌, ◌++◌, length, Option, None, Some, refl, sym, ap, ◌∙◌, subst, arith, append-nil, append_assoc}
 use Rattle.std.specs.Prelude.{map}
 use Rattle.std.specs.List.{AllByRecursion}
 use Rattle.std.proofs.lemmas.List.{map-append}
 use Rattle.std.proofs.lemmas.List.Concat.{flat_map-append}
 use Rattle.cta_site.specs.declared.site.Site.{Site}
+use Rattle.cta_site.specs.WellFormed.{IsWellFormed}
 use Rattle.cta_model.specs.Kept.{Kept, kept_after}
+use Rattle.drive_session.specs.Table.{Row}
+use Rattle.media.specs.Drives.{DriveView}
 use Rattle.cta_model.specs.Answers.{is_accepted}
 use Rattle.cta_model.specs.declared.asks.Ask.{Ask}
 use Rattle.cta_model.specs.declared.answers.Answer.{Answer}
@@ -18,11 +21,12 @@ use Rattle.links.specs.Laws.{RunsFollow}
 use Rattle.links.specs.Standing.{StandFor, LinksStand}
 use Rattle.links.specs.declared.links.Links.{Links}
 use Rattle.replay.specs.Seen.{SourceView, SinkView, World, world, unread}
-use Rattle.replay.specs.Script.{Record, OfLink, OfDrive, IsCarriedOut, IsScriptCut, InLine, cut_bytes, whole_bytes, tail_bytes, tail_records, spelling}
+use Rattle.replay.specs.Script.{Record, OfLink, OfDrive, IsRecord, IsScriptCut, InLine, cut_bytes, whole_bytes, tail_bytes, tail_records, spelling}
 use Rattle.replay.specs.Run.{ScriptTurn, Happening, Answered, Stepped, record_of, links_turn, links_turns, happenings_of, all_happenings}
-use Rattle.replay.specs.Output.{fresh, after, event_keeps, kept_behind}
+use Rattle.replay.specs.Output.{AskFitly, after, event_keeps, run_behind}
+use Rattle.replay.specs.Steps.{RunState, begun_with, behind_row, row_at}
 use Rattle.replay.specs.Intake.{Took}
-use Rattle.replay.specs.Outcome.{Wrote, EndsScript, Finishes, AnswersRecord, Replays}
+use Rattle.replay.specs.Outcome.{AreNewDrives, Wrote, EndsScript, Finishes, AnswersRecord, Replays}
 use Rattle.replay.specs.declared.status.Status.{Status}
 use Rattle.replay.specs.declared.status.Status.TheVariants.{NoMemory}
 use Rattle.replay.proofs.Taking.{Took-trans, Took-none}
@@ -44,43 +48,57 @@ kept_then-site k t (Asks ask content) = kept_after-site k t ask _
 kept_then-site k t (Looks look) = refl
 kept_then-site k t (Replies reply) = refl
 
-request_keeps-site : (k : Kept) (t : ℕ) (request : Request) → (request_keeps k t request).site ≡ k.site
+pub request_keeps-site : (k : Kept) (t : ℕ) (request : Request) → (request_keeps k t request).site ≡ k.site
 unfolding request_keeps
 request_keeps-site k t request = kept_then-site k t (asked k.site request)
 
-event_keeps-site : (k : Kept) (t : ℕ) (e : Event) → (event_keeps k t e).site ≡ k.site
+pub event_keeps-site : (k : Kept) (t : ℕ) (e : Event) → (event_keeps k t e).site ≡ k.site
 event_keeps-site k t Continues = refl
 event_keeps-site k t (Requests request) = request_keeps-site k t request
 event_keeps-site k t (Refuses refusal) = refl
 
-pub kept_behind-site : (k : Kept) (h : Happening) → (kept_behind k h).site ≡ k.site
-kept_behind-site k (Answered link moment exchange) = event_keeps-site k moment exchange.event
-kept_behind-site k (Stepped drive moment line) = refl
+behind_row-site : (k : RunState) (drive moment : ℕ) (seen : DriveView) (r : Option Row) → (behind_row k drive moment seen r).site ≡ k.site
+behind_row-site k drive moment seen None = refl
+behind_row-site k drive moment seen (Some r) = refl
 
-pub after-site : (k : Kept) (hs : List Happening) → (after k hs).site ≡ k.site
+pub run_behind-site : (k : RunState) (h : Happening) → (run_behind k h).site ≡ k.site
+run_behind-site k (Answered link moment exchange) = refl
+run_behind-site k (Stepped drive moment done seen) = behind_row-site k drive moment seen (row_at k drive done)
+
+pub after-site : (k : RunState) (hs : List Happening) → (after k hs).site ≡ k.site
 after-site k [] = refl
-after-site k (h ∷ hs) = after-site (kept_behind k h) hs ∙ kept_behind-site k h
+after-site k (h ∷ hs) = after-site (run_behind k h) hs ∙ run_behind-site k h
+
+-- ---- asks of steps
+
+fitly-append : (k : RunState) (xs ys : List Happening) → AskFitly k xs → AskFitly (after k xs) ys → AskFitly k (xs ++ ys)
+fitly-append k [] ys p q = q
+fitly-append k (x ∷ xs) ys p q = (p.0, fitly-append (run_behind k x) xs ys p.1 q)
+
+pub fitly_behind : (k n : RunState) (xs ys : List Happening) → n ≡ after k xs → AskFitly k xs → AskFitly n ys → AskFitly k (xs ++ ys)
+fitly_behind k n xs ys e p q = fitly-append k xs ys p (subst (λ j. AskFitly j ys) e q)
 
 -- ---- a run
 
 -- from a to m so many whole records were read and answered, n is kept now, and the links stand for these records
-pub record Ran (links : Links) (k n : Kept) (a m : World) : Type 0 where
+pub record Ran (links : Links) (k n : RunState) (a m : World) : Type 0 where
   pub turns : List ScriptTurn
-  pub each : AllByRecursion (IsCarriedOut k.site) (map record_of turns)
+  pub each : AllByRecursion (IsRecord k.site) (map record_of turns)
   pub took : Took a.script m.script (whole_bytes k.site (map record_of turns))
   pub stands : StandFor links k.site.limits.file (links_turns turns)
+  pub fit : AskFitly k (all_happenings turns)
   pub wrote : Wrote k a.out m.out (all_happenings turns)
   pub keeps : n ≡ after k (all_happenings turns)
 
-pub Ran-none : (links : Links) (k : Kept) (a : World) → LinksStand links k.site.limits.file (λ link. []) (λ link. []) → Ran links k k a a
-Ran-none links k a stands = record { turns = []; each = tt; took = Took-none a.script; stands = (stands, tt); wrote = wrote_none k a.out; keeps = refl }
+pub Ran-none : (links : Links) (k : RunState) (a : World) → LinksStand links k.site.limits.file (λ link. []) (λ link. []) → Ran links k k a a
+Ran-none links k a stands = record { turns = []; each = tt; took = Took-none a.script; stands = (stands, tt); fit = tt; wrote = wrote_none k a.out; keeps = refl }
 
 pub AllByRecursion-append : {X : Type 0} (P : X → Type 0) (xs ys : List X) → AllByRecursion P xs → AllByRecursion P ys → AllByRecursion P (xs ++ ys)
 AllByRecursion-append P [] ys p q = q
 AllByRecursion-append P (x ∷ xs) ys p q = (p.0, AllByRecursion-append P xs ys p.1 q)
 
-pub same_site : {links : Links} {k n : Kept} {a m : World} (r : Ran links k n a m) → n.site ≡ k.site
-same_site {links} {k} r = ap (λ j. j.site) r.keeps ∙ after-site k (all_happenings r.turns)
+pub same_site : {links : Links} {k n : RunState} {a m : World} (r : Ran links k n a m) → n.site ≡ k.site
+same_site {links} {k} r = ap (λ (j : RunState). j.site) r.keeps ∙ after-site k (all_happenings r.turns)
 
 records-push : (ts : List ScriptTurn) (t : ScriptTurn) → map record_of (ts ++ t ∷ []) ≡ map record_of ts ++ record_of t ∷ []
 records-push ts t = map-append record_of ts (t ∷ [])
@@ -94,20 +112,21 @@ happened-push ts t = flat_map-append happenings_of ts (t ∷ []) ∙ ap (λ l. a
 turns-push : (ts : List ScriptTurn) (t : ScriptTurn) → links_turns (ts ++ t ∷ []) ≡ links_turns ts ++ links_turn t
 turns-push ts t = flat_map-append links_turn ts (t ∷ []) ∙ ap (λ l. links_turns ts ++ l) (append-nil (links_turn t))
 
-pub Ran-more : (links links' : Links) (k n now : Kept) (a m b : World) (r : Ran links k n a m) → AnswersRecord links' n now (links_turns r.turns) m b → Ran links' k now a b
+pub Ran-more : (links links' : Links) (k n now : RunState) (a m b : World) (r : Ran links k n a m) → AnswersRecord links' n now (links_turns r.turns) m b → Ran links' k now a b
 Ran-more links links' k n now a m b r x =
     let site = same_site r in
     let records = map record_of r.turns in
     let bytes = ap (whole_bytes k.site) (records-push r.turns x.turn) ∙ whole_bytes-push k.site records (record_of x.turn) in
-    let is_record = subst (λ s. IsCarriedOut s (record_of x.turn)) site x.is_record in
+    let is_record = subst (λ s. IsRecord s (record_of x.turn)) site x.is_record in
     let took = subst (λ s. Took m.script b.script (spelling s (record_of x.turn))) site x.took in
     let happened = happened-push r.turns x.turn in
     record {
       turns = r.turns ++ x.turn ∷ [];
-      each = subst (AllByRecursion (IsCarriedOut k.site)) (sym (records-push r.turns x.turn))
-          (AllByRecursion-append (IsCarriedOut k.site) records (record_of x.turn ∷ []) r.each (is_record, tt));
+      each = subst (AllByRecursion (IsRecord k.site)) (sym (records-push r.turns x.turn))
+          (AllByRecursion-append (IsRecord k.site) records (record_of x.turn ∷ []) r.each (is_record, tt));
       took = subst (Took a.script b.script) (sym bytes) (Took-trans r.took took);
       stands = subst (StandFor links' k.site.limits.file) (sym (turns-push r.turns x.turn)) (subst (λ s. StandFor links' s.limits.file (links_turns r.turns ++ links_turn x.turn)) site x.stands);
+      fit = subst (AskFitly k) (sym happened) (fitly_behind k n (all_happenings r.turns) (happenings_of x.turn) r.keeps r.fit x.fit);
       wrote = subst (Wrote k a.out b.out) (sym happened) (wrote_behind k n a.out m.out b.out (all_happenings r.turns) (happenings_of x.turn) r.keeps r.wrote x.wrote);
       keeps = after-behind k n now (all_happenings r.turns) (happenings_of x.turn) r.keeps x.keeps ∙ ap (after k) (sym happened);
     }
@@ -118,7 +137,7 @@ spelling_positive site (OfLink f) = omega arith
 spelling_positive site (OfDrive drive moment) = omega arith
 
 module _ (follow : RunsFollow) where
-  pub Ran-ends : (links : Links) (k n : Kept) (a m b : World) (status : Status) (r : Ran links k n a m) → a.script.faults ≤ m.script.faults → a.out.faults ≤ m.out.faults
+  pub Ran-ends : (links : Links) (k n : RunState) (a m b : World) (status : Status) (r : Ran links k n a m) → a.script.faults ≤ m.script.faults → a.out.faults ≤ m.out.faults
       → Finishes n (links_turns r.turns) m b status → Finishes k [] a b status
   Ran-ends links k n a m b status r reads writes f =
       let site = same_site r in
@@ -139,24 +158,23 @@ module _ (follow : RunsFollow) where
       } in
       record {
         cut = behind records f.cut;
-        is_cut = (AllByRecursion-append (IsCarriedOut k.site) records f.cut.whole r.each is_cut.0, is_cut.1);
+        is_cut = (AllByRecursion-append (IsRecord k.site) records f.cut.whole r.each is_cut.0, is_cut.1);
         took = subst (Took a.script b.script) (sym bytes) (Took-trans r.took took);
         turns = r.turns ++ f.turns;
         brought = map-append record_of r.turns f.turns ∙ ap (λ l. records ++ l) f.brought ∙ sym (append_assoc records f.cut.whole (tail_records f.cut.tail));
         run = subst (IsRunBehind k.site.limits.file []) (sym (flat_map-append links_turn r.turns f.turns))
             ((follow k.site.limits.file [] (links_turns r.turns) (links_turns f.turns)).1 (r.stands.1, run));
+        fit = subst (AskFitly k) (sym (flat_map-append happenings_of r.turns f.turns)) (fitly_behind k n (all_happenings r.turns) (all_happenings f.turns) r.keeps r.fit f.fit);
         ends = subst (EndsScript status k a b (behind records f.cut)) (sym (flat_map-append happenings_of r.turns f.turns))
             (EndsScript-behind k n records (all_happenings r.turns) (all_happenings f.turns) a m b f.cut before status f.ends);
       }
 
-  -- the same, where nothing was kept at first
-  pub Ran-ends_fresh : (links : Links) (k n : Kept) (a m b : World) (status : Status) → k ≡ fresh k.site → (r : Ran links k n a m) → a.script.faults ≤ m.script.faults → a.out.faults ≤ m.out.faults
-      → Finishes n (links_turns r.turns) m b status → Finishes (fresh k.site) [] a b status
-  Ran-ends_fresh links k n a m b status e r reads writes f = subst (λ j. Finishes j [] a b status) e (Ran-ends links k n a m b status r reads writes f)
-
 -- memory was wanted before a byte was taken
-pub wanted_first : (site : Site) (from : SourceView) (a : SinkView) → Replays NoMemory site from from a a
-wanted_first site from a = record {
+pub wanted_first : (tells : Bool) (site : Site) (seen : List DriveView) (from : SourceView) (a : SinkView) → IsWellFormed site → AreNewDrives tells site seen → Replays tells NoMemory site from from a a
+wanted_first tells site seen from a valid drives = record {
+  valid = valid;
+  seen = seen;
+  drives = drives;
   taken = 0;
   within = omega arith;
   finishes = record {
@@ -166,7 +184,8 @@ wanted_first site from a = record {
     turns = [];
     brought = refl;
     run = tt;
-    ends = (tt, first_none (fresh site) a []);
+    fit = tt;
+    ends = (tt, first_none (begun_with site seen) a []);
   };
   legal = tt;
 }

@@ -1,16 +1,24 @@
 -- The answers that the archive gives callers, and the replies to them.
 use Rattle.std.proofs.Common.{◌≡◌, ℕ, Bool, true, false, List, [], ◌∷◌, None, Option, Result, Ok, Err, IfOk, OnOk, not, refl, sym, ap, ◌∙◌, subst}
-use Rattle.std.specs.Prelude.{◌+◌, map, nat_lt, is_some, is_none}
+use Rattle.std.specs.Prelude.{◌+◌, Some, length, map, nat_le, nat_lt, is_some, is_none, option_map}
+use Rattle.std.specs.Arc.{arc_value}
+use Rattle.blob.specs.declared.sum.Sum256.{Sum256}
 use Rattle.cta_site.specs.declared.site.Site.{Site}
 use Rattle.cta_site.specs.Lookups.{class_of}
 use Rattle.cta_site.specs.Paths.{is_path}
-use Rattle.cta_site.specs.Listed.{rows}
-use Rattle.cta_model.specs.History.{History, moment_of}
-use Rattle.cta_model.specs.Files.{live_file}
+use Rattle.cta_site.specs.Listed.{Listed, rows}
+use Rattle.std.specs.List.{list_all}
+use Rattle.cta_model.specs.History.{History, has_text, moment_of, next_number}
+use Rattle.cta_model.specs.Buffer.{is_resident}
+use Rattle.cta_model.specs.Files.{live_file, sum_of as sum_of_file}
 use Rattle.cta_model.specs.Space.{free_space, evictable_size, evicted_for}
-use Rattle.cta_model.specs.Answers.{refuse, is_too_heavy}
+use Rattle.cta_model.specs.Answers.{is_too_heavy, refuse, request_answer}
 use Rattle.served.specs.Served.{served_answer, served_look}
-use Rattle.cta_model.specs.Bare.{bare_ask, bare_look, bare_answer, bare_copy}
+use Rattle.cta_model.specs.Bare.{bare_answer, bare_copy}
+use Rattle.cta_model.specs.Hands.{LookHand}
+use Rattle.cta_model.specs.Looks.{fetch_by, stage_info_by}
+use Rattle.cta_model.specs.Reports.{stage_report, tape_report}
+use Rattle.cta_model.specs.Stages.{StageRequest, request_of}
 use Rattle.cta_model.specs.declared.asks.Ask.{Ask}
 use Rattle.cta_model.specs.declared.asks.Ask.TheVariants as ask
 use Rattle.cta_model.specs.declared.asks.Look.{Look}
@@ -19,14 +27,23 @@ use Rattle.cta_model.specs.declared.answers.Answer.{Answer}
 use Rattle.cta_model.specs.declared.answers.Answer.TheVariants as answer
 use Rattle.cta_model.specs.declared.answers.Refusal.{Refusal}
 use Rattle.cta_model.specs.declared.answers.Refusal.TheVariants as refusal
+use Rattle.cta_model.specs.declared.hands.Hand.{Hand}
+use Rattle.cta_model.specs.declared.hands.Hand.TheVariants as hand
 use Rattle.cta_model.specs.declared.reports.FailedCopy.{FailedCopy}
+use Rattle.cta_model.specs.declared.reports.PlaceInfo.{PlaceInfo}
+use Rattle.cta_model.specs.declared.reports.QueueInfo.{QueueInfo}
+use Rattle.cta_model.specs.declared.reports.StageInfo.{StageInfo}
+use Rattle.cta_model.specs.declared.reports.TapeInfo.{TapeInfo}
+use Rattle.cta_model.specs.declared.states.RequestFile.{RequestFile}
 use Rattle.cta_model.specs.Kept.{Kept, kept_after}
 use Rattle.wire_http.specs.declared.request.Request.{Request}
 use Rattle.wire_http.specs.declared.reply.Reply.{Reply}
 use Rattle.wire_http.specs.Reply.{ReplyView, reply_text, reply_view, view_text}
 use Rattle.tape_json.specs.Reports.{failed_report}
 use Rattle.tape_routes.specs.Asked.{Asked, Asks, Looks, Replies, asked}
-use Rattle.tape_routes.specs.Replies.{is_for_callers, HasContent, reply_for}
+use Rattle.tape_routes.specs.Callers.{IsCallers}
+use Rattle.tape_routes.specs.Replies.{is_for_callers, Content, HasContent, reply_for}
+use Rattle.replay.specs.Hands.{CarryContent, content_in}
 use Rattle.tape_routes.specs.Answering.{FitsAnswer, FitsAsked, FitsRequest, IsReplyTo, RepliesWith, answer_view, kept_then, reply_to, request_keeps, request_reply}
 
 -- an answer that a caller gets and that comes with no content
@@ -41,9 +58,14 @@ plain_refused : (r : Refusal) (b : Bool) (a : Answer) → IsServed (answer.Refus
 plain_refused r true a p q = p
 plain_refused r false a p q = q
 
-served_ask : (site : Site) (h : History) (t : ℕ) (k : Ask) → IsServed (served_answer site h t k)
+plain_request : (o : Option StageRequest) (paths : List (List ℕ)) → IsServed (request_answer o paths)
 unfolding is_plain
-served_ask site h t (ask.Put who path sum) =
+plain_request None paths = refl
+plain_request (Some r) paths = plain_refused refusal.ForeignPath (not (list_all (λ p. has_text p (map (λ (s : RequestFile). s.path) r.files)) paths)) answer.Done refl refl
+
+served_ask : (site : Site) (h : History) (t : ℕ) (k : Ask) (content : Option (List ℕ)) → IsCallers (Asks k content) → IsServed (served_answer site h t k)
+unfolding is_plain
+served_ask site h t (ask.Put who path sum) content fit =
     let at = moment_of h t in
     let stored = answer.Stored (rows (evicted_for site h at sum.len)) in
     let no_space = nat_lt (free_space site h + evictable_size site h at) sum.len in
@@ -56,98 +78,158 @@ served_ask site h t (ask.Put who path sum) =
     (plain_refused refusal.NoDirectory (is_none (class_of site path)) named refl
     (plain_refused refusal.PathTaken (is_some (live_file h path)) spaced refl
     (plain_refused refusal.NoSpace no_space stored refl refl))))
-served_ask site h t (ask.Delete who path) = refl
-served_ask site h t (ask.Stage who files) = refl
-served_ask site h t (ask.Cancel who id paths) = refl
-served_ask site h t (ask.DropStage who id) = refl
-served_ask site h t (ask.Release who id paths) = refl
-served_ask site h t (ask.Next d) = refl
-served_ask site h t (ask.Claim m) = refl
-served_ask site h t (ask.Flushed m items) = refl
-served_ask site h t (ask.Recalled m job) = refl
-served_ask site h t (ask.Failed m fault charged returned) = refl
-served_ask site h t (ask.End m fault) = refl
-served_ask site h t (ask.DriveUp who d) = refl
-served_ask site h t (ask.DriveDown who d) = refl
-served_ask site h t (ask.TapeState who v s) = refl
-served_ask site h t (ask.Reclaim who v) = refl
-served_ask site h t (ask.Repack who v) = refl
-served_ask site h t (ask.Retry who paths) = refl
+served_ask site h t (ask.Delete who path) content fit =
+    let deleted = refuse refusal.NoFile (is_none (live_file h path)) answer.Done in
+    plain_refused refusal.HistoryFull (is_too_heavy site h (ask.Delete who path) deleted) deleted refl
+    (plain_refused refusal.NoFile (is_none (live_file h path)) answer.Done refl refl)
+served_ask site h t (ask.Stage who files) content fit =
+    let staged = answer.Staged (next_number h) in
+    plain_refused refusal.HistoryFull (is_too_heavy site h (ask.Stage who files) staged) staged refl refl
+served_ask site h t (ask.Cancel who id paths) content fit =
+    let cancelled = request_answer (request_of site h id) paths.items in
+    plain_refused refusal.HistoryFull (is_too_heavy site h (ask.Cancel who id paths) cancelled) cancelled refl (plain_request (request_of site h id) paths.items)
+served_ask site h t (ask.DropStage who id) content fit =
+    let dropped = refuse refusal.NoRequest (is_none (request_of site h id)) answer.Done in
+    plain_refused refusal.HistoryFull (is_too_heavy site h (ask.DropStage who id) dropped) dropped refl
+    (plain_refused refusal.NoRequest (is_none (request_of site h id)) answer.Done refl refl)
+served_ask site h t (ask.Release who id paths) content fit =
+    let released = request_answer (request_of site h id) paths.items in
+    plain_refused refusal.HistoryFull (is_too_heavy site h (ask.Release who id paths) released) released refl (plain_request (request_of site h id) paths.items)
+served_ask site h t (ask.Next d) content fit = absurd fit
+served_ask site h t (ask.Claim m) content fit = absurd fit
+served_ask site h t (ask.Flushed m items) content fit = absurd fit
+served_ask site h t (ask.Recalled m job) content fit = absurd fit
+served_ask site h t (ask.Failed m fault charged returned) content fit = absurd fit
+served_ask site h t (ask.End m fault) content fit = absurd fit
+served_ask site h t (ask.DriveUp who d) content fit = refl
+served_ask site h t (ask.DriveDown who d) content fit = refl
+served_ask site h t (ask.TapeState who v s) content fit = refl
+served_ask site h t (ask.Reclaim who v) content fit = refl
+served_ask site h t (ask.Repack who v) content fit = refl
+served_ask site h t (ask.Retry who paths) content fit = refl
 
-served_see : (site : Site) (h : History) (t : ℕ) (k : Look) → IsServed (served_look site h t k)
-unfolding is_plain
-served_see site h t (look.Fetch path) = refl
-served_see site h t (look.StageInfo id) = refl
-served_see site h t (look.ArchiveInfo paths) = refl
-served_see site h t (look.RepackInfo id) = refl
-served_see site h t look.FailedList = refl
-served_see site h t (look.TapeInfo v) = refl
-served_see site h t look.Queues = refl
+-- a caller gets the answer, and the hand that goes out with it has the content that it says
+record IsSeen {M : Type 0} (told : Answer) (out : Hand M) : Type 0 where
+  callers : is_for_callers told ≡ true
+  fits : LookHand told out → FitsAnswer told (option_map arc_value (content_in out))
+
+sees_bytes : {M : Type 0} (sum : Sum256) (out : Hand M) → IsSeen (answer.Bytes sum) out
+sees_bytes sum hand.Nothing = record { callers = refl; fits = λ no. no }
+sees_bytes sum (hand.Blob blob) = record { callers = refl; fits = λ is. is }
+sees_bytes sum (hand.Blobs blobs) = record { callers = refl; fits = λ no. no }
+sees_bytes sum (hand.Medium x) = record { callers = refl; fits = λ no. no }
+
+sees_places : {M : Type 0} (infos : Listed PlaceInfo) (out : Hand M) → IsSeen (answer.Places infos) out
+sees_places infos hand.Nothing = record { callers = refl; fits = λ is. refl }
+sees_places infos (hand.Blob blob) = record { callers = refl; fits = λ no. absurd no }
+sees_places infos (hand.Blobs blobs) = record { callers = refl; fits = λ no. absurd no }
+sees_places infos (hand.Medium x) = record { callers = refl; fits = λ no. absurd no }
+
+sees_stage : {M : Type 0} (info : StageInfo) (out : Hand M) → IsSeen (answer.Stage info) out
+sees_stage info hand.Nothing = record { callers = refl; fits = λ is. refl }
+sees_stage info (hand.Blob blob) = record { callers = refl; fits = λ no. absurd no }
+sees_stage info (hand.Blobs blobs) = record { callers = refl; fits = λ no. absurd no }
+sees_stage info (hand.Medium x) = record { callers = refl; fits = λ no. absurd no }
+
+sees_tape : {M : Type 0} (info : TapeInfo) (out : Hand M) → IsSeen (answer.TapeSeen info) out
+sees_tape info hand.Nothing = record { callers = refl; fits = λ is. refl }
+sees_tape info (hand.Blob blob) = record { callers = refl; fits = λ no. absurd no }
+sees_tape info (hand.Blobs blobs) = record { callers = refl; fits = λ no. absurd no }
+sees_tape info (hand.Medium x) = record { callers = refl; fits = λ no. absurd no }
+
+sees_queues : {M : Type 0} (infos : Listed QueueInfo) (out : Hand M) → IsSeen (answer.QueuesSeen infos) out
+sees_queues infos hand.Nothing = record { callers = refl; fits = λ is. refl }
+sees_queues infos (hand.Blob blob) = record { callers = refl; fits = λ no. absurd no }
+sees_queues infos (hand.Blobs blobs) = record { callers = refl; fits = λ no. absurd no }
+sees_queues infos (hand.Medium x) = record { callers = refl; fits = λ no. absurd no }
+
+sees_refused : {M : Type 0} (r : Refusal) (out : Hand M) → is_for_callers (answer.Refused r) ≡ true → IsSeen (answer.Refused r) out
+sees_refused r hand.Nothing e = record { callers = e; fits = λ is. refl }
+sees_refused r (hand.Blob blob) e = record { callers = e; fits = λ no. absurd no }
+sees_refused r (hand.Blobs blobs) e = record { callers = e; fits = λ no. absurd no }
+sees_refused r (hand.Medium x) e = record { callers = e; fits = λ no. absurd no }
+
+sees_either : {M : Type 0} (r : Refusal) (b : Bool) (a : Answer) (out : Hand M) → is_for_callers (answer.Refused r) ≡ true → IsSeen a out → IsSeen (refuse r b a) out
+sees_either r true a out e s = sees_refused r out e
+sees_either r false a out e s = s
+
+sees_file : {M : Type 0} (h : History) (o : Option ℕ) (out : Hand M) → IsSeen (fetch_by h o) out
+sees_file h None out = sees_refused refusal.NoFile out refl
+sees_file h (Some f) out = sees_either refusal.NotResident (not (is_resident h f)) (answer.Bytes (sum_of_file h f)) out refl (sees_bytes (sum_of_file h f) out)
+
+sees_request : {M : Type 0} (h : History) (id : ℕ) (o : Option StageRequest) (out : Hand M) → IsSeen (stage_info_by h id o) out
+sees_request h id None out = sees_refused refusal.NoRequest out refl
+sees_request h id (Some r) out = sees_stage (stage_report h id r) out
+
+sees_look : {M : Type 0} (site : Site) (h : History) (t : ℕ) (k : Look) (out : Hand M) → IsSeen (served_look site h t k) out
+sees_look site h t (look.Fetch path) out = sees_file h (live_file h path) out
+sees_look site h t (look.StageInfo id) out = sees_request h id (request_of site h id) out
+sees_look site h t (look.ArchiveInfo paths) out = sees_places _ out
+sees_look site h t (look.RepackInfo id) out = sees_refused refusal.NotBuilt out refl
+sees_look site h t look.FailedList out = sees_refused refusal.NotBuilt out refl
+sees_look site h t (look.TapeInfo v) out = sees_either refusal.NoTape (nat_le (length site.tapes.items) v) (answer.TapeSeen (tape_report site h v)) out refl (sees_tape (tape_report site h v) out)
+sees_look site h t look.Queues out = sees_queues _ out
 
 -- ---- the room in lists
-
--- an answer with no room to spare is told as the one with it
-record IsToldAlike (a : Answer) : Type 0 where
-  plain : is_plain (bare_answer a) ≡ is_plain a
-  reply : (site : Site) (close : Bool) → reply_for site (bare_answer a) None close ≡ reply_for site a None close
 
 failed_bare : (copies : List FailedCopy) → map failed_report (map bare_copy copies) ≡ map failed_report copies
 failed_bare [] = refl
 failed_bare (f ∷ fs) = ap (λ xs. failed_report f ∷ xs) (failed_bare fs)
 
+-- an answer with no room to spare is told as the one with it
+record IsToldAlike (a : Answer) : Type 0 where
+  plain : is_plain (bare_answer a) ≡ is_plain a
+  callers : is_for_callers (bare_answer a) ≡ is_for_callers a
+  view : (site : Site) (content : Option (List ℕ)) (close : Bool) → answer_view site (bare_answer a) content close ≡ answer_view site a content close
+
 told_alike : (a : Answer) → IsToldAlike a
 unfolding is_plain
-told_alike (answer.Stored evicted) = record { plain = refl; reply = λ site close. refl }
-told_alike answer.Done = record { plain = refl; reply = λ site close. refl }
-told_alike (answer.Staged id) = record { plain = refl; reply = λ site close. refl }
-told_alike (answer.Mounted mount direction tape) = record { plain = refl; reply = λ site close. refl }
-told_alike answer.Idle = record { plain = refl; reply = λ site close. refl }
-told_alike answer.DriveDown = record { plain = refl; reply = λ site close. refl }
-told_alike answer.DriveBusy = record { plain = refl; reply = λ site close. refl }
-told_alike (answer.Batch items evicted) = record { plain = refl; reply = λ site close. refl }
-told_alike answer.Nothing = record { plain = refl; reply = λ site close. refl }
-told_alike (answer.Told fates) = record { plain = refl; reply = λ site close. refl }
-told_alike (answer.Arrived fate) = record { plain = refl; reply = λ site close. refl }
-told_alike (answer.Repacking id items) = record { plain = refl; reply = λ site close. refl }
-told_alike (answer.Retried jobs) = record { plain = refl; reply = λ site close. refl }
-told_alike (answer.Bytes sum) = record { plain = refl; reply = λ site close. refl }
-told_alike (answer.Stage info) = record { plain = refl; reply = λ site close. refl }
-told_alike (answer.Places infos) = record { plain = refl; reply = λ site close. refl }
-told_alike (answer.RepackSeen info) = record { plain = refl; reply = λ site close. refl }
-told_alike (answer.FailedSeen copies) = record { plain = refl; reply = λ site close. rw (failed_bare copies.items) refl }
-told_alike (answer.TapeSeen info) = record { plain = refl; reply = λ site close. refl }
-told_alike (answer.QueuesSeen infos) = record { plain = refl; reply = λ site close. refl }
-told_alike (answer.Refused refused) = record { plain = refl; reply = λ site close. refl }
+told_alike (answer.Stored evicted) = record { plain = refl; callers = refl; view = λ site content close. refl }
+told_alike answer.Done = record { plain = refl; callers = refl; view = λ site content close. refl }
+told_alike (answer.Staged id) = record { plain = refl; callers = refl; view = λ site content close. refl }
+told_alike (answer.Mounted mount direction tape) = record { plain = refl; callers = refl; view = λ site content close. refl }
+told_alike answer.Idle = record { plain = refl; callers = refl; view = λ site content close. refl }
+told_alike answer.DriveDown = record { plain = refl; callers = refl; view = λ site content close. refl }
+told_alike answer.DriveBusy = record { plain = refl; callers = refl; view = λ site content close. refl }
+told_alike (answer.Batch items evicted) = record { plain = refl; callers = refl; view = λ site content close. refl }
+told_alike answer.Nothing = record { plain = refl; callers = refl; view = λ site content close. refl }
+told_alike (answer.Told fates) = record { plain = refl; callers = refl; view = λ site content close. refl }
+told_alike (answer.Arrived fate) = record { plain = refl; callers = refl; view = λ site content close. refl }
+told_alike (answer.Repacking id items) = record { plain = refl; callers = refl; view = λ site content close. refl }
+told_alike (answer.Retried jobs) = record { plain = refl; callers = refl; view = λ site content close. refl }
+told_alike (answer.Bytes sum) = record { plain = refl; callers = refl; view = λ site content close. refl }
+told_alike (answer.Stage info) = record { plain = refl; callers = refl; view = λ site content close. refl }
+told_alike (answer.Places infos) = record { plain = refl; callers = refl; view = λ site content close. refl }
+told_alike (answer.RepackSeen info) = record { plain = refl; callers = refl; view = λ site content close. refl }
+told_alike (answer.FailedSeen copies) = record { plain = refl; callers = refl; view = λ site content close. rw (failed_bare copies.items) refl }
+told_alike (answer.TapeSeen info) = record { plain = refl; callers = refl; view = λ site content close. refl }
+told_alike (answer.QueuesSeen infos) = record { plain = refl; callers = refl; view = λ site content close. refl }
+told_alike (answer.Refused refused) = record { plain = refl; callers = refl; view = λ site content close. refl }
 
--- what is asked with no room to spare is answered alike
-pub served_bare : (site : Site) (h : History) (t : ℕ) (k : Ask) → served_answer site h t (bare_ask k) ≡ served_answer site h t k
-served_bare site h t (ask.Put who path sum) = refl
-served_bare site h t (ask.Delete who path) = refl
-served_bare site h t (ask.Stage who files) = refl
-served_bare site h t (ask.Cancel who id paths) = refl
-served_bare site h t (ask.DropStage who id) = refl
-served_bare site h t (ask.Release who id paths) = refl
-served_bare site h t (ask.Next d) = refl
-served_bare site h t (ask.Claim m) = refl
-served_bare site h t (ask.Flushed m items) = refl
-served_bare site h t (ask.Recalled m job) = refl
-served_bare site h t (ask.Failed m fault charged returned) = refl
-served_bare site h t (ask.End m fault) = refl
-served_bare site h t (ask.DriveUp who d) = refl
-served_bare site h t (ask.DriveDown who d) = refl
-served_bare site h t (ask.TapeState who v s) = refl
-served_bare site h t (ask.Reclaim who v) = refl
-served_bare site h t (ask.Repack who v) = refl
-served_bare site h t (ask.Retry who paths) = refl
-
-look_bare : (site : Site) (h : History) (t : ℕ) (k : Look) → served_look site h t (bare_look k) ≡ served_look site h t k
-look_bare site h t (look.Fetch path) = refl
-look_bare site h t (look.StageInfo id) = refl
-look_bare site h t (look.ArchiveInfo paths) = refl
-look_bare site h t (look.RepackInfo id) = refl
-look_bare site h t look.FailedList = refl
-look_bare site h t (look.TapeInfo v) = refl
-look_bare site h t look.Queues = refl
+-- with the content that an answer says comes the content that its reply needs
+fits_content : (a : Answer) (content : Content) → FitsAnswer (bare_answer a) (option_map arc_value content) → HasContent a content
+fits_content (answer.Bytes sum) None fits = fits
+fits_content (answer.Bytes sum) (Some blob) fits = fits
+fits_content (answer.Stored evicted) content fits = tt
+fits_content answer.Done content fits = tt
+fits_content (answer.Staged id) content fits = tt
+fits_content (answer.Mounted mount direction tape) content fits = tt
+fits_content answer.Idle content fits = tt
+fits_content answer.DriveDown content fits = tt
+fits_content answer.DriveBusy content fits = tt
+fits_content (answer.Batch items evicted) content fits = tt
+fits_content answer.Nothing content fits = tt
+fits_content (answer.Told fates) content fits = tt
+fits_content (answer.Arrived fate) content fits = tt
+fits_content (answer.Repacking id items) content fits = tt
+fits_content (answer.Retried jobs) content fits = tt
+fits_content (answer.Stage info) content fits = tt
+fits_content (answer.Places infos) content fits = tt
+fits_content (answer.RepackSeen info) content fits = tt
+fits_content (answer.FailedSeen copies) content fits = tt
+fits_content (answer.TapeSeen info) content fits = tt
+fits_content (answer.QueuesSeen infos) content fits = tt
+fits_content (answer.Refused refused) content fits = tt
 
 -- ---- what a reply needs of an answer, and what it is
 
@@ -175,30 +257,6 @@ plain_is_callers (answer.TapeSeen info) e = e
 plain_is_callers (answer.QueuesSeen infos) e = e
 plain_is_callers (answer.Refused refused) e = e
 
-plain_has_content : (a : Answer) → is_plain a ≡ true → HasContent a None
-unfolding is_plain
-plain_has_content (answer.Bytes sum) e = absurd (let no : false ≡ true = e in cc)
-plain_has_content (answer.Stored evicted) e = tt
-plain_has_content answer.Done e = tt
-plain_has_content (answer.Staged id) e = tt
-plain_has_content (answer.Mounted mount direction tape) e = tt
-plain_has_content answer.Idle e = tt
-plain_has_content answer.DriveDown e = tt
-plain_has_content answer.DriveBusy e = tt
-plain_has_content (answer.Batch items evicted) e = tt
-plain_has_content answer.Nothing e = tt
-plain_has_content (answer.Told fates) e = tt
-plain_has_content (answer.Arrived fate) e = tt
-plain_has_content (answer.Repacking id items) e = tt
-plain_has_content (answer.Retried jobs) e = tt
-plain_has_content (answer.Stage info) e = tt
-plain_has_content (answer.Places infos) e = tt
-plain_has_content (answer.RepackSeen info) e = tt
-plain_has_content (answer.FailedSeen copies) e = tt
-plain_has_content (answer.TapeSeen info) e = tt
-plain_has_content (answer.QueuesSeen infos) e = tt
-plain_has_content (answer.Refused refused) e = tt
-
 plain_fits : (a : Answer) → is_plain a ≡ true → FitsAnswer a None
 unfolding is_plain
 plain_fits (answer.Bytes sum) e = absurd (let no : false ≡ true = e in cc)
@@ -223,85 +281,58 @@ plain_fits (answer.TapeSeen info) e = refl
 plain_fits (answer.QueuesSeen infos) e = refl
 plain_fits (answer.Refused refused) e = refl
 
-plain_view : (site : Site) (a : Answer) (close : Bool) → is_plain a ≡ true → reply_view (reply_for site a None close) ≡ answer_view site a None close
-unfolding is_plain
-plain_view site (answer.Bytes sum) close e = absurd (let no : false ≡ true = e in cc)
-plain_view site (answer.Stored evicted) close e = refl
-plain_view site answer.Done close e = refl
-plain_view site (answer.Staged id) close e = refl
-plain_view site (answer.Mounted mount direction tape) close e = refl
-plain_view site answer.Idle close e = refl
-plain_view site answer.DriveDown close e = refl
-plain_view site answer.DriveBusy close e = refl
-plain_view site (answer.Batch items evicted) close e = refl
-plain_view site answer.Nothing close e = refl
-plain_view site (answer.Told fates) close e = refl
-plain_view site (answer.Arrived fate) close e = refl
-plain_view site (answer.Repacking id items) close e = refl
-plain_view site (answer.Retried jobs) close e = refl
-plain_view site (answer.Stage info) close e = refl
-plain_view site (answer.Places infos) close e = refl
-plain_view site (answer.RepackSeen info) close e = refl
-plain_view site (answer.FailedSeen copies) close e = refl
-plain_view site (answer.TapeSeen info) close e = refl
-plain_view site (answer.QueuesSeen infos) close e = refl
-plain_view site (answer.Refused refused) close e = refl
-
--- an answer of the code that says what was asked for
-pub record Serves (a told : Answer) : Type 0 where
+-- what a reply to an answer with this content needs, and what it is
+pub record Serves (a told : Answer) (out : Content) : Type 0 where
   pub callers : is_for_callers a ≡ true
-  pub content : HasContent a None
-  pub fits : FitsAnswer told None
-  pub view : (site : Site) (close : Bool) → reply_view (reply_for site a None close) ≡ answer_view site told None close
+  pub content : HasContent a out
+  pub fits : FitsAnswer told (option_map arc_value out)
 
-serves : (a told : Answer) → is_plain told ≡ true → bare_answer a ≡ told → Serves a told
-serves a told p e =
-    let plain : is_plain a ≡ true = sym (told_alike a).plain ∙ ap is_plain e ∙ p in
-    record {
-      callers = plain_is_callers a plain;
-      content = plain_has_content a plain;
-      fits = plain_fits told p;
-      view = λ site close. ap reply_view (sym ((told_alike a).reply site close) ∙ ap (λ x. reply_for site x None close) e) ∙ plain_view site told close p;
-    }
+serves_told : (a told : Answer) (content : Content) → bare_answer a ≡ told → is_for_callers told ≡ true → FitsAnswer told (option_map arc_value content) → Serves a told content
+serves_told a told content e callers fits = record {
+  callers = sym (told_alike a).callers ∙ ap is_for_callers e ∙ callers;
+  content = fits_content a content (subst (λ x. FitsAnswer x (option_map arc_value content)) (sym e) fits);
+  fits = fits;
+}
 
-pub serves_ask : (site : Site) (h : History) (t : ℕ) (k : Ask) (a : Answer) → bare_answer a ≡ served_answer site h t k → Serves a (served_answer site h t (bare_ask k))
-serves_ask site h t k a e = serves a (served_answer site h t (bare_ask k)) (served_ask site h t (bare_ask k)) (e ∙ sym (served_bare site h t k))
+pub serves_ask : (site : Site) (h : History) (t : ℕ) (k : Ask) (sent : Option (List ℕ)) (a : Answer) → IsCallers (Asks k sent) → bare_answer a ≡ served_answer site h t k → Serves a (served_answer site h t k) None
+serves_ask site h t k sent a fit e =
+    let plain = served_ask site h t k sent fit in
+    serves_told a (served_answer site h t k) None e (plain_is_callers (served_answer site h t k) plain) (plain_fits (served_answer site h t k) plain)
 
-pub serves_look : (site : Site) (h : History) (t : ℕ) (k : Look) (a : Answer) → bare_answer a ≡ served_look site h t k → Serves a (served_look site h t (bare_look k))
-serves_look site h t k a e = serves a (served_look site h t (bare_look k)) (served_see site h t (bare_look k)) (e ∙ sym (look_bare site h t k))
+pub serves_look : {M : Type 0} (site : Site) (h : History) (t : ℕ) (k : Look) (a : Answer) (out : Hand M) → bare_answer a ≡ served_look site h t k → LookHand (bare_answer a) out → Serves a (served_look site h t k) (content_in out)
+serves_look site h t k a out e goes =
+    let seen = sees_look site h t k out in
+    serves_told a (served_look site h t k) (content_in out) e seen.callers (seen.fits (subst (λ x. LookHand x out) e goes))
+
+-- the reply to an answer is told by the answer and its content
+reply_told : (site : Site) (a told : Answer) (content : Content) (close : Bool) (reply : Reply) → CarryContent → bare_answer a ≡ told → HasContent a content → reply ≡ reply_for site a content close
+    → reply_view reply ≡ answer_view site told (option_map arc_value content) close
+reply_told site a told content close reply carry e has is =
+    ap reply_view is ∙ carry site a content close has ∙ sym ((told_alike a).view site (option_map arc_value content) close) ∙ ap (λ x. answer_view site x (option_map arc_value content) close) e
 
 -- ---- what is replied
 
-pub ask_replied : {E : Type 0} (r : Result Reply E) (k : Kept) (t : ℕ) (close : Bool) (ask : Ask) (a : Answer) (site : Site) → bare_answer a ≡ served_answer k.site k.history t ask → site ≡ k.site
-    → IfOk r (λ reply. reply ≡ reply_for site a None close) → IfOk r (λ reply. RepliesWith k t close (Asks (bare_ask ask) None) (reply_view reply))
+pub ask_replied : {E : Type 0} (r : Result Reply E) (k : Kept) (t : ℕ) (close : Bool) (ask : Ask) (sent : Option (List ℕ)) (a : Answer) (site : Site) → CarryContent → IsCallers (Asks ask sent) → bare_answer a ≡ served_answer k.site k.history t ask → site ≡ k.site
+    → IfOk r (λ reply. reply ≡ reply_for site a None close) → IfOk r (λ reply. RepliesWith k t close (Asks ask sent) (reply_view reply))
 unfolding reply_to FitsAsked
-ask_replied (Ok reply) k t close ask a site e same h =
-    let s = serves_ask k.site k.history t ask a e in
-    record { content = None; fits = s.fits; is_reply = ap reply_view (h ∙ ap (λ (x : Site). reply_for x a None close) same) ∙ s.view k.site close }
-ask_replied (Err x) k t close ask a site e same h = tt
+ask_replied (Ok reply) k t close ask sent a site carry fit e same h =
+    let s = serves_ask k.site k.history t ask sent a fit e in
+    record { content = None; fits = s.fits; is_reply = reply_told k.site a (served_answer k.site k.history t ask) None close reply carry e s.content (h ∙ ap (λ (x : Site). reply_for x a None close) same) }
+ask_replied (Err x) k t close ask sent a site carry fit e same h = tt
 
-pub look_replied : {E : Type 0} (r : Result Reply E) (k : Kept) (t : ℕ) (close : Bool) (look : Look) (a : Answer) (site : Site) → bare_answer a ≡ served_look k.site k.history t look → site ≡ k.site
-    → IfOk r (λ reply. reply ≡ reply_for site a None close) → IfOk r (λ reply. RepliesWith k t close (Looks (bare_look look)) (reply_view reply))
+pub look_replied : {E M : Type 0} (r : Result Reply E) (k : Kept) (t : ℕ) (close : Bool) (look : Look) (a : Answer) (out : Hand M) (site : Site) → CarryContent → bare_answer a ≡ served_look k.site k.history t look → LookHand (bare_answer a) out → site ≡ k.site
+    → IfOk r (λ reply. reply ≡ reply_for site a (content_in out) close) → IfOk r (λ reply. RepliesWith k t close (Looks look) (reply_view reply))
 unfolding reply_to FitsAsked
-look_replied (Ok reply) k t close look a site e same h =
-    let s = serves_look k.site k.history t look a e in
-    record { content = None; fits = s.fits; is_reply = ap reply_view (h ∙ ap (λ (x : Site). reply_for x a None close) same) ∙ s.view k.site close }
-look_replied (Err x) k t close look a site e same h = tt
+look_replied (Ok reply) k t close look a out site carry e goes same h =
+    let s = serves_look k.site k.history t look a out e goes in
+    record { content = option_map arc_value (content_in out); fits = s.fits; is_reply = reply_told k.site a (served_look k.site k.history t look) (content_in out) close reply carry e s.content (h ∙ ap (λ (x : Site). reply_for x a (content_in out) close) same) }
+look_replied (Err x) k t close look a out site carry e goes same h = tt
 
-pub ask_kept : {E : Type 0} (r : Result Reply E) (k now : Kept) (t : ℕ) (ask : Ask) (a : Answer) → bare_answer a ≡ served_answer k.site k.history t ask → now ≡ kept_after k t (bare_ask ask) (bare_answer a)
-    → OnOk r (now ≡ kept_then k t (Asks (bare_ask ask) None))
+pub ask_kept : {E : Type 0} (r : Result Reply E) (k now : Kept) (t : ℕ) (ask : Ask) (sent : Option (List ℕ)) (a : Answer) → bare_answer a ≡ served_answer k.site k.history t ask → now ≡ kept_after k t ask (bare_answer a)
+    → OnOk r (now ≡ kept_then k t (Asks ask sent))
 unfolding kept_then
-ask_kept (Ok reply) k now t ask a e h = h ∙ ap (kept_after k t (bare_ask ask)) (e ∙ sym (served_bare k.site k.history t ask))
-ask_kept (Err x) k now t ask a e h = tt
-
--- what is sent along with an ask changes neither its reply nor what is kept
-pub sent_replied : (k : Kept) (t : ℕ) (close : Bool) (ask : Ask) (sent : Option (List ℕ)) (v : ReplyView) → RepliesWith k t close (Asks ask None) v → RepliesWith k t close (Asks ask sent) v
-unfolding reply_to FitsAsked
-sent_replied k t close ask sent v r = record { content = r.content; fits = r.fits; is_reply = r.is_reply }
-
-pub sent_kept : (k : Kept) (t : ℕ) (ask : Ask) (sent : Option (List ℕ)) → kept_then k t (Asks ask None) ≡ kept_then k t (Asks ask sent)
-unfolding kept_then
-sent_kept k t ask sent = refl
+ask_kept (Ok reply) k now t ask sent a e h = h ∙ ap (kept_after k t ask) e
+ask_kept (Err x) k now t ask sent a e h = tt
 
 pub looks_keep : (k : Kept) (t : ℕ) (look : Look) → k ≡ kept_then k t (Looks look)
 unfolding kept_then

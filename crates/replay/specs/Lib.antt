@@ -1,12 +1,16 @@
 pub mod Bytes
 pub mod Words
 pub mod Line
+pub mod Steps
 pub mod Script
 pub mod Run
 pub mod Seen
 pub mod Output
+pub mod Hands
 pub mod Intake
 pub mod Outcome
+pub mod Desk
+pub mod StepRecords
 pub mod SiteFile
 pub mod Top
 pub mod Laws

@@ -1,20 +1,24 @@
 -- How a script ends, and what was written for it then.
-use Rattle.std.specs.Prelude.{◌≡◌, ◌≢◌, ℕ, ◌+◌, ◌<◌, ◌≤◌, ◌⊎◌, List, [], ◌∷◌, ◌++◌, length, map, codes, Option, None, Some, Result, MatchResult, OnOk}
+use Rattle.std.specs.Prelude.{◌≡◌, ◌≢◌, ℕ, ◌+◌, ◌<◌, ◌≤◌, ◌⊎◌, List, [], ◌∷◌, ◌++◌, length, map, codes, slice_get, Bool, Option, None, Some, Result, MatchResult, OnOk}
 use Rattle.std.specs.List.{AllByRecursion}
 use Rattle.std.specs.Io.KnownBytes.{Appends, IsAtEnd}
 use Rattle.outside.specs.Causes.{Rose}
 use Rattle.outside.specs.Streams.{AppendsFront}
 use Rattle.cta_site.specs.declared.site.Site.{Site}
-use Rattle.cta_model.specs.Kept.{Kept}
+use Rattle.cta_site.specs.WellFormed.{IsWellFormed}
 use Rattle.cta_model.specs.Legal.{IsLegal}
 use Rattle.conn.specs.Cut.{Event}
 use Rattle.links.specs.Run.{Turn, IsRun, IsRunBehind}
 use Rattle.links.specs.Standing.{StandFor}
 use Rattle.links.specs.declared.links.Links.{Links}
 use Rattle.replay.specs.Seen.{SourceView, SinkView, ScriptView, World, world, unread, begun}
-use Rattle.replay.specs.Script.{Record, ScriptCut, Ended, MayGoOn, IsRefusedAt, IsUnbuilt, IsScriptCut, IsCarriedOut, cut_bytes, cut_records, whole_bytes, spelling, ended}
-use Rattle.replay.specs.Run.{Exchange, ScriptTurn, Happening, IsScriptRun, record_of, links_turn, links_turns, turn_with, events_of, answered_on, happenings_of, all_happenings}
-use Rattle.replay.specs.Output.{Reply, HaveContents, after, frame, fresh, history_of_run, output_on, output_of}
+use Rattle.drive_session.specs.declared.reports.Done.{Done}
+use Rattle.media.specs.Drives.{DriveView}
+use Rattle.media.specs.Made.{IsNewDrive}
+use Rattle.replay.specs.Script.{Record, OfDrive, ScriptCut, Ended, InLine, MayGoOn, IsRefusedAt, IsScriptCut, IsRecord, cut_bytes, cut_records, whole_bytes, spelling, ended}
+use Rattle.replay.specs.Steps.{IsUnservedStep, RunState, begun_with}
+use Rattle.replay.specs.Run.{Exchange, ScriptTurn, Happening, Stepped, IsScriptRun, record_of, links_turn, links_turns, turn_with, events_of, answered_on, happenings_of, all_happenings}
+use Rattle.replay.specs.Output.{Reply, AskFitly, HaveContents, after, frame, history_of_run, output_on}
 use Rattle.replay.specs.Intake.{Took, HasStopped, budget}
 use Rattle.replay.specs.declared.intake.Stop.{Stop}
 use Rattle.replay.specs.declared.intake.Stop.TheVariants.{End, Fault, Full, Memory}
@@ -27,34 +31,34 @@ use Rattle.replay.specs.declared.status.Status.TheVariants.{Ok, Usage, Site as S
 
 -- ---- what is written
 
--- all that is due for what happened was written, on what was kept before it, with contents that the answers say
-pub record Wrote (kept : Kept) (a b : SinkView) (happened : List Happening) : Type 0 where
-  pub contents : HaveContents kept happened
-  pub bytes : Appends a.written b.written (output_on kept happened)
+-- all that is due for what happened was written, on what was s before it, with contents that the answers say
+pub record Wrote (s : RunState) (a b : SinkView) (happened : List Happening) : Type 0 where
+  pub contents : HaveContents s happened
+  pub bytes : Appends a.written b.written (output_on s happened)
 
 -- all that is due for the first of what happened was written, and nothing else
-pub record WritesFirst (kept : Kept) (a b : SinkView) (happened : List Happening) : Type 0 where
+pub record WritesFirst (s : RunState) (a b : SinkView) (happened : List Happening) : Type 0 where
   pub first : List Happening
   pub later : List Happening
   pub parts : happened ≡ first ++ later
-  pub wrote : Wrote kept a b first
+  pub wrote : Wrote s a b first
 
 -- a front was written of what is due for the first of what happened
-pub record WritesFront (kept : Kept) (a b : SinkView) (happened : List Happening) : Type 0 where
+pub record WritesFront (s : RunState) (a b : SinkView) (happened : List Happening) : Type 0 where
   pub first : List Happening
   pub later : List Happening
   pub parts : happened ≡ first ++ later
-  pub contents : HaveContents kept first
-  pub bytes : AppendsFront a.written b.written (output_on kept first)
+  pub contents : HaveContents s first
+  pub bytes : AppendsFront a.written b.written (output_on s first)
 
 -- why not all was written: the sink has failed and took a front of it; or memory was wanted, and it took whole frames
-abbrev pub IsUnwritten : Unwritten → Kept → SinkView → SinkView → List Happening → Type 0
-IsUnwritten Broken kept a b happened = WritesFront kept a b happened × Rose a.faults b.faults
-IsUnwritten Wanting kept a b happened = WritesFirst kept a b happened
+abbrev pub IsUnwritten : Unwritten → RunState → SinkView → SinkView → List Happening → Type 0
+IsUnwritten Broken s a b happened = WritesFront s a b happened × Rose a.faults b.faults
+IsUnwritten Wanting s a b happened = WritesFirst s a b happened
 
 -- all was written, or not and why
-abbrev pub IsWritten : {T : Type 0} → Result T Unwritten → Kept → SinkView → SinkView → List Happening → Type 0
-IsWritten r kept a b happened = MatchResult r (λ _. Wrote kept a b happened) (λ why. IsUnwritten why kept a b happened)
+abbrev pub IsWritten : {T : Type 0} → Result T Unwritten → RunState → SinkView → SinkView → List Happening → Type 0
+IsWritten r s a b happened = MatchResult r (λ _. Wrote s a b happened) (λ why. IsUnwritten why s a b happened)
 
 -- why a frame was not written, and what was
 abbrev pub NotFramed : Unwritten → SinkView → SinkView → Reply → Type 0
@@ -66,20 +70,20 @@ abbrev pub IsFramed : {T : Type 0} → Result T Unwritten → SinkView → SinkV
 IsFramed r a b reply = MatchResult r (λ _. Appends a.written b.written (frame reply)) (λ why. NotFramed why a b reply)
 
 -- the events of a link were answered in order, and this is kept now; or not all replies were written and why
-pub record AnswersEvents {T : Type 0} (result : Result T Unwritten) (kept now : Kept) (link moment : ℕ) (events : List Event) (a b : SinkView) : Type 0 where
+pub record AnswersEvents {T : Type 0} (result : Result T Unwritten) (s now : RunState) (link moment : ℕ) (events : List Event) (a b : SinkView) : Type 0 where
   pub exchanges : List Exchange
   pub of_events : events_of exchanges ≡ events
-  pub written : IsWritten result kept a b (answered_on link moment exchanges)
-  pub keeps : OnOk result (now ≡ after kept (answered_on link moment exchanges))
+  pub written : IsWritten result s a b (answered_on link moment exchanges)
+  pub keeps : OnOk result (now ≡ after s (answered_on link moment exchanges))
 
 -- these are the turns of a run of the links, of which the last is one of these bytes with these events and further ones, whose replies were written, or not and why
-pub record Feeds {T : Type 0} (result : Result T Unwritten) (links' : Links) (limit : ℕ) (kept now : Kept) (before : List Turn) (link moment : ℕ) (bytes : List ℕ) (events : List Event)
+pub record Feeds {T : Type 0} (result : Result T Unwritten) (links' : Links) (limit : ℕ) (s now : RunState) (before : List Turn) (link moment : ℕ) (bytes : List ℕ) (events : List Event)
     (a b : SinkView) : Type 0 where
   pub more : List Exchange
   pub run : IsRun limit (before ++ turn_with link moment bytes (events ++ events_of more) ∷ [])
   pub stands : OnOk result (StandFor links' limit (before ++ turn_with link moment bytes (events ++ events_of more) ∷ []))
-  pub written : IsWritten result kept a b (answered_on link moment more)
-  pub keeps : OnOk result (now ≡ after kept (answered_on link moment more))
+  pub written : IsWritten result s a b (answered_on link moment more)
+  pub keeps : OnOk result (now ≡ after s (answered_on link moment more))
 
 -- ---- how a script ends
 
@@ -88,74 +92,89 @@ abbrev pub IsScriptFault : ℕ → Site → ScriptView → ScriptView → Script
 IsScriptFault offset site a b c =
     ((at : ℕ) × IsRefusedAt c.tail at × (offset ≡ a.taken + length (whole_bytes site c.whole) + at)) ⊎ (MayGoOn c.tail × IsAtEnd b.left × (b.taken < budget) × (offset ≡ b.taken))
 
--- a whole record that is not built begins there
-abbrev pub IsUnbuiltAt : ℕ → Site → ScriptView → ScriptCut → Type 0
-IsUnbuiltAt offset site a c = IsUnbuilt c.tail × (offset ≡ a.taken + length (whole_bytes site c.whole))
+-- the last whole record is a step whose ask is not served, which begins there, and all that is due for what happened before it was written
+pub record EndsUnserved (offset : ℕ) (s : RunState) (a b : World) (c : ScriptCut) (happened : List Happening) : Type 0 where
+  pub records : List Record
+  pub drive : ℕ
+  pub moment : ℕ
+  pub done : Option Done
+  pub seen : DriveView
+  pub first : List Happening
+  pub whole : c.whole ≡ records ++ OfDrive drive moment ∷ []
+  pub tail : c.tail ≡ InLine []
+  pub parts : happened ≡ first ++ Stepped drive moment done seen ∷ []
+  pub unserved : IsUnservedStep (after s first) drive done seen
+  pub offset_is : offset ≡ a.script.taken + length (whole_bytes s.site records)
+  pub wrote : Wrote s a.out b.out first
 
 -- when each status comes, and what was written then
-abbrev pub EndsScript : Status → Kept → World → World → ScriptCut → List Happening → Type 0
-EndsScript Ok kept a b c happened = (c.tail ≡ Ended) × Wrote kept a.out b.out happened
-EndsScript (Script offset) kept a b c happened = IsScriptFault offset kept.site a.script b.script c × Wrote kept a.out b.out happened
-EndsScript ReadFault kept a b c happened = MayGoOn c.tail × Rose a.script.faults b.script.faults × (b.script.taken < budget) × Wrote kept a.out b.out happened
-EndsScript WriteFault kept a b c happened = MayGoOn c.tail × Rose a.out.faults b.out.faults × WritesFront kept a.out b.out happened
-EndsScript NoMemory kept a b c happened = MayGoOn c.tail × WritesFirst kept a.out b.out happened
-EndsScript TooLong kept a b c happened = MayGoOn c.tail × (b.script.taken ≡ budget) × Wrote kept a.out b.out happened
-EndsScript (NotBuilt offset) kept a b c happened = IsUnbuiltAt offset kept.site a.script c × Wrote kept a.out b.out happened
-EndsScript Usage kept a b c happened = ⊥
-EndsScript (SiteRule rule item) kept a b c happened = ⊥
-EndsScript ListenFault kept a b c happened = ⊥
+abbrev pub EndsScript : Status → RunState → World → World → ScriptCut → List Happening → Type 0
+EndsScript Ok s a b c happened = (c.tail ≡ Ended) × Wrote s a.out b.out happened
+EndsScript (Script offset) s a b c happened = IsScriptFault offset s.site a.script b.script c × Wrote s a.out b.out happened
+EndsScript ReadFault s a b c happened = MayGoOn c.tail × Rose a.script.faults b.script.faults × (b.script.taken < budget) × Wrote s a.out b.out happened
+EndsScript WriteFault s a b c happened = MayGoOn c.tail × Rose a.out.faults b.out.faults × WritesFront s a.out b.out happened
+EndsScript NoMemory s a b c happened = MayGoOn c.tail × WritesFirst s a.out b.out happened
+EndsScript TooLong s a b c happened = MayGoOn c.tail × (b.script.taken ≡ budget) × Wrote s a.out b.out happened
+EndsScript (NotBuilt offset) s a b c happened = EndsUnserved offset s a b c happened
+EndsScript Usage s a b c happened = ⊥
+EndsScript (SiteRule rule item) s a b c happened = ⊥
+EndsScript ListenFault s a b c happened = ⊥
 
 -- behind earlier turns of the links the script was read up to some place, these are the turns of all that it brought, and it ended there with this status
-pub record Finishes (kept : Kept) (before : List Turn) (a b : World) (status : Status) : Type 0 where
+pub record Finishes (s : RunState) (before : List Turn) (a b : World) (status : Status) : Type 0 where
   pub cut : ScriptCut
-  pub is_cut : IsScriptCut kept.site cut
-  pub took : Took a.script b.script (cut_bytes kept.site cut)
+  pub is_cut : IsScriptCut s.site cut
+  pub took : Took a.script b.script (cut_bytes s.site cut)
   pub turns : List ScriptTurn
   pub brought : map record_of turns ≡ cut_records cut
-  pub run : IsRunBehind kept.site.limits.file before (links_turns turns)
-  pub ends : EndsScript status kept a b cut (all_happenings turns)
+  pub run : IsRunBehind s.site.limits.file before (links_turns turns)
+  pub fit : AskFitly s (all_happenings turns)
+  pub ends : EndsScript status s a b cut (all_happenings turns)
 
 -- one more record was read, and answered, and this is kept now
-pub record AnswersRecord (links' : Links) (kept now : Kept) (before : List Turn) (a b : World) : Type 0 where
+pub record AnswersRecord (links' : Links) (s now : RunState) (before : List Turn) (a b : World) : Type 0 where
   pub turn : ScriptTurn
-  pub is_record : IsCarriedOut kept.site (record_of turn)
-  pub took : Took a.script b.script (spelling kept.site (record_of turn))
-  pub stands : StandFor links' kept.site.limits.file (before ++ links_turn turn)
-  pub wrote : Wrote kept a.out b.out (happenings_of turn)
-  pub keeps : now ≡ after kept (happenings_of turn)
+  pub is_record : IsRecord s.site (record_of turn)
+  pub took : Took a.script b.script (spelling s.site (record_of turn))
+  pub stands : StandFor links' s.site.limits.file (before ++ links_turn turn)
+  pub fit : AskFitly s (happenings_of turn)
+  pub wrote : Wrote s a.out b.out (happenings_of turn)
+  pub keeps : now ≡ after s (happenings_of turn)
 
 -- a record was answered, or the script ended
-abbrev pub Turns : Option Status → Links → Kept → Kept → List Turn → World → World → Type 0
-Turns None links' kept now before a b = AnswersRecord links' kept now before a b
-Turns (Some status) links' kept now before a b = Finishes kept before a b status
+abbrev pub Turns : Option Status → Links → RunState → RunState → List Turn → World → World → Type 0
+Turns None links' s now before a b = AnswersRecord links' s now before a b
+Turns (Some status) links' s now before a b = Finishes s before a b status
 
 -- the same, where the record had begun with front before a
-pub record FinishesAfter (kept : Kept) (before : List Turn) (front : List ℕ) (a b : World) (status : Status) : Type 0 where
+pub record FinishesAfter (s : RunState) (before : List Turn) (front : List ℕ) (a b : World) (status : Status) : Type 0 where
   pub cut : ScriptCut
-  pub is_cut : IsScriptCut kept.site cut
+  pub is_cut : IsScriptCut s.site cut
   pub rest : List ℕ
-  pub spelled : cut_bytes kept.site cut ≡ front ++ rest
+  pub spelled : cut_bytes s.site cut ≡ front ++ rest
   pub took : Took a.script b.script rest
   pub turns : List ScriptTurn
   pub brought : map record_of turns ≡ cut_records cut
-  pub run : IsRunBehind kept.site.limits.file before (links_turns turns)
-  pub ends : EndsScript status kept (begun a front) b cut (all_happenings turns)
+  pub run : IsRunBehind s.site.limits.file before (links_turns turns)
+  pub fit : AskFitly s (all_happenings turns)
+  pub ends : EndsScript status s (begun a front) b cut (all_happenings turns)
 
 -- the record had begun with front before a, and was answered
-pub record AnswersAfter (links' : Links) (kept now : Kept) (before : List Turn) (front : List ℕ) (a b : World) : Type 0 where
+pub record AnswersAfter (links' : Links) (s now : RunState) (before : List Turn) (front : List ℕ) (a b : World) : Type 0 where
   pub turn : ScriptTurn
-  pub is_record : IsCarriedOut kept.site (record_of turn)
+  pub is_record : IsRecord s.site (record_of turn)
   pub rest : List ℕ
-  pub spelled : spelling kept.site (record_of turn) ≡ front ++ rest
+  pub spelled : spelling s.site (record_of turn) ≡ front ++ rest
   pub took : Took a.script b.script rest
-  pub stands : StandFor links' kept.site.limits.file (before ++ links_turn turn)
-  pub wrote : Wrote kept a.out b.out (happenings_of turn)
-  pub keeps : now ≡ after kept (happenings_of turn)
+  pub stands : StandFor links' s.site.limits.file (before ++ links_turn turn)
+  pub fit : AskFitly s (happenings_of turn)
+  pub wrote : Wrote s a.out b.out (happenings_of turn)
+  pub keeps : now ≡ after s (happenings_of turn)
 
 -- either of the two
-abbrev pub TurnsAfter : Option Status → Links → Kept → Kept → List Turn → List ℕ → World → World → Type 0
-TurnsAfter None links' kept now before front a b = AnswersAfter links' kept now before front a b
-TurnsAfter (Some status) links' kept now before front a b = FinishesAfter kept before front a b status
+abbrev pub TurnsAfter : Option Status → Links → RunState → RunState → List Turn → List ℕ → World → World → Type 0
+TurnsAfter None links' s now before front a b = AnswersAfter links' s now before front a b
+TurnsAfter (Some status) links' s now before front a b = FinishesAfter s before front a b status
 
 -- the status that a stop gives
 abbrev pub stop_status : Stop → ℕ → Status
@@ -172,10 +191,10 @@ unwritten_status Wanting = NoMemory
 -- ---- the bytes of a record
 
 -- how the feeding of a record's bytes ended: all came, or some and why no more did, with all replies written; or not all replies were written
-abbrev pub FedTo : FeedEnd → ℕ → List ℕ → List Happening → Kept → World → World → Type 0
-FedTo All len bytes happened kept a b = (length bytes ≡ len) × Wrote kept a.out b.out happened
-FedTo (Part why) len bytes happened kept a b = HasStopped why a.script b.script × Wrote kept a.out b.out happened
-FedTo (Unanswered why) len bytes happened kept a b = IsUnwritten why kept a.out b.out happened
+abbrev pub FedTo : FeedEnd → ℕ → List ℕ → List Happening → RunState → World → World → Type 0
+FedTo All len bytes happened s a b = (length bytes ≡ len) × Wrote s a.out b.out happened
+FedTo (Part why) len bytes happened s a b = HasStopped why a.script b.script × Wrote s a.out b.out happened
+FedTo (Unanswered why) len bytes happened s a b = IsUnwritten why s a.out b.out happened
 
 -- where all replies were written
 abbrev pub WhereAnswered : FeedEnd → Type 0 → Type 0
@@ -184,15 +203,15 @@ WhereAnswered (Part why) P = P
 WhereAnswered (Unanswered why) P = Unit {0}
 
 -- bytes of a record of this length were taken, and fed to its link as they came
-pub record Delivers (end : FeedEnd) (links' : Links) (kept now : Kept) (before : List Turn) (link moment len : ℕ) (a b : World) : Type 0 where
+pub record Delivers (end : FeedEnd) (links' : Links) (s now : RunState) (before : List Turn) (link moment len : ℕ) (a b : World) : Type 0 where
   pub bytes : List ℕ
   pub exchanges : List Exchange
   pub took : Took a.script b.script bytes
   pub fits : length bytes ≤ len
-  pub run : IsRun kept.site.limits.file (before ++ turn_with link moment bytes (events_of exchanges) ∷ [])
-  pub answered : FedTo end len bytes (answered_on link moment exchanges) kept a b
-  pub stands : WhereAnswered end (StandFor links' kept.site.limits.file (before ++ turn_with link moment bytes (events_of exchanges) ∷ []))
-  pub keeps : WhereAnswered end (now ≡ after kept (answered_on link moment exchanges))
+  pub run : IsRun s.site.limits.file (before ++ turn_with link moment bytes (events_of exchanges) ∷ [])
+  pub answered : FedTo end len bytes (answered_on link moment exchanges) s a b
+  pub stands : WhereAnswered end (StandFor links' s.site.limits.file (before ++ turn_with link moment bytes (events_of exchanges) ∷ []))
+  pub keeps : WhereAnswered end (now ≡ after s (answered_on link moment exchanges))
 
 -- the last LF of a record was taken; or another byte, or none
 abbrev pub TookLf : Option Status → ScriptView → ScriptView → Type 0
@@ -203,30 +222,45 @@ TookLf (Some status) a b =
 
 -- ---- whole runs
 
--- a run from the front of a script, for an archive of the site that has kept nothing yet: what status it ends with, when, what it took and
--- wrote then, and that the history which it has kept is legal
-pub record Replays (status : Status) (site : Site) (from to : SourceView) (a b : SinkView) : Type 0 where
+-- the drives of a site, seen so at first: as a bench makes them
+pub record AreNewDrives (tells : Bool) (site : Site) (seen : List DriveView) : Type 0 where
+  pub count : length seen ≡ length site.drives.items
+  pub each : (d : ℕ) (v : DriveView) → slice_get seen d ≡ Some v → IsNewDrive tells site d v
+
+-- a run from the front of a script, for an archive of the site, which is valid, that has kept nothing yet, and drives that a bench has made: what status it ends with,
+-- when, what it took and wrote then, and that the history which it has kept is legal
+pub record Replays (tells : Bool) (status : Status) (site : Site) (from to : SourceView) (a b : SinkView) : Type 0 where
+  pub valid : IsWellFormed site
+  pub seen : List DriveView
+  pub drives : AreNewDrives tells site seen
   pub taken : ℕ
   pub within : taken ≤ budget
-  pub finishes : Finishes (fresh site) [] (world (unread from) a) (world (record { left = to.left; taken = taken; faults = to.faults }) b) status
-  pub legal : IsLegal site (history_of_run site finishes.turns)
+  pub finishes : Finishes (begun_with site seen) [] (world (unread from) a) (world (record { left = to.left; taken = taken; faults = to.faults }) b) status
+  pub legal : IsLegal site (history_of_run site seen finishes.turns)
 
 -- the source has these whole records left, then the line `end` within the budget, then rest
 pub record ReachesEnd (site : Site) (left : Option (List ℕ)) (records : List Record) (rest : List ℕ) : Type 0 where
-  pub each : AllByRecursion (IsCarriedOut site) records
+  pub each : AllByRecursion (IsRecord site) records
   pub spelled : left ≡ Some (whole_bytes site records ++ (ended (codes "end") ++ rest))
   pub within : length (whole_bytes site records) + 4 ≤ budget
 
 -- what follows the line `end` is left, and the whole output of a run of the records was written, whose history is legal
-pub record IsReadWhole (site : Site) (records : List Record) (rest : List ℕ) (to : SourceView) (a b : SinkView) : Type 0 where
+pub record IsReadWhole (tells : Bool) (site : Site) (records : List Record) (rest : List ℕ) (to : SourceView) (a b : SinkView) : Type 0 where
   pub left : to.left ≡ Some rest
+  pub seen : List DriveView
+  pub drives : AreNewDrives tells site seen
   pub turns : List ScriptTurn
   pub run : IsScriptRun site records turns
-  pub wrote : Wrote (fresh site) a b (all_happenings turns)
-  pub legal : IsLegal site (history_of_run site turns)
+  pub wrote : Wrote (begun_with site seen) a b (all_happenings turns)
+  pub legal : IsLegal site (history_of_run site seen turns)
 
--- such a script, with no fault of the source or the sink, is read to its line `end`, or memory is wanted
-abbrev pub RunsToEnd : Status → Site → SourceView → SourceView → SinkView → SinkView → Type 0
-RunsToEnd status site from to a b =
+-- whether a status is that of what is not built
+abbrev pub IsNotBuilt : Status → Type 0
+IsNotBuilt (NotBuilt offset) = Unit {0}
+IsNotBuilt _ = ⊥
+
+-- such a script, with no fault of the source or the sink, is read to its line `end`, or a step asks what is not served, or memory is wanted
+abbrev pub RunsToEnd : Bool → Status → Site → SourceView → SourceView → SinkView → SinkView → Type 0
+RunsToEnd tells status site from to a b =
     (records : List Record) (rest : List ℕ) → ReachesEnd site from.left records rest → ¬ (Rose from.faults to.faults) → ¬ (Rose a.faults b.faults)
-    → ((status ≡ Ok) × IsReadWhole site records rest to a b) ⊎ (status ≡ NoMemory)
+    → ((status ≡ Ok) × IsReadWhole tells site records rest to a b) ⊎ (IsNotBuilt status ⊎ (status ≡ NoMemory))

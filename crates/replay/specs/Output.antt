@@ -6,7 +6,9 @@ use Rattle.cta_model.specs.Kept.{Kept}
 use Rattle.wire_http.specs.Reply.{reply_text, refusal_reply}
 use Rattle.conn.specs.Cut.{Event, Continues, Requests, Refuses, continue_text}
 use Rattle.tape_routes.specs.Answering.{request_reply, request_keeps, FitsRequest}
+use Rattle.media.specs.Drives.{DriveView}
 use Rattle.replay.specs.Run.{Exchange, ScriptTurn, Happening, Answered, Stepped, all_happenings}
+use Rattle.replay.specs.Steps.{IsRowFit, IsStepOf, RunState, begun_with, behind_row, kept_in, row_at, with_kept, written_by}
 
 -- an archive that has kept nothing yet
 abbrev pub fresh : Site → Kept
@@ -44,53 +46,63 @@ unfoldable pub frame : Reply → List ℕ
 frame r = codes "reply " ++ decimal r.link ++ codes " " ++ decimal (length r.text) ++ codes "\n" ++ r.text ++ codes "\n"
 
 -- what is written for it: the frame of the reply to an event, or the line of a step
-abbrev pub written_for : Kept → Happening → List ℕ
-written_for kept (Answered link moment exchange) = frame (record { link = link; text = event_text kept moment exchange.content exchange.event })
-written_for kept (Stepped drive moment line) = line
+abbrev pub written_for : RunState → Happening → List ℕ
+written_for s (Answered link moment exchange) = frame (record { link = link; text = event_text (kept_in s) moment exchange.content exchange.event })
+written_for s (Stepped drive moment done seen) = written_by s drive moment (row_at s drive done)
 
--- what is kept behind it; a step changes nothing as long as steps are not built
-abbrev pub kept_behind : Kept → Happening → Kept
-kept_behind kept (Answered link moment exchange) = event_keeps kept moment exchange.event
-kept_behind kept (Stepped drive moment line) = kept
+-- the run behind it
+abbrev pub run_behind : RunState → Happening → RunState
+run_behind s (Answered link moment exchange) = with_kept s (event_keeps (kept_in s) moment exchange.event)
+run_behind s (Stepped drive moment done seen) = behind_row s drive moment seen (row_at s drive done)
 
--- the content of its reply fits the answer
-abbrev pub FitsHappening : Kept → Happening → Type 0
-FitsHappening kept (Answered link moment exchange) = FitsEvent kept moment exchange.content exchange.event
-FitsHappening kept (Stepped drive moment line) = Unit {0}
+-- the content of its reply fits the answer; a step is one of the drive's table
+abbrev pub FitsHappening : RunState → Happening → Type 0
+FitsHappening s (Answered link moment exchange) = FitsEvent (kept_in s) moment exchange.content exchange.event
+FitsHappening s (Stepped drive moment done seen) = IsStepOf s drive moment done seen
+
+-- its step, if it is one, asks what a session may ask
+abbrev pub AsksFit : RunState → Happening → Type 0
+AsksFit s (Answered link moment exchange) = Unit {0}
+AsksFit s (Stepped drive moment done seen) = IsRowFit (kept_in s) (row_at s drive done)
 
 -- ---- all that happens
 
--- what is kept behind it all
-abbrev pub after : Kept → List Happening → Kept
-after kept [] = kept
-after kept (h ∷ hs) = after (kept_behind kept h) hs
+-- the run behind it all
+abbrev pub after : RunState → List Happening → RunState
+after s [] = s
+after s (h ∷ hs) = after (run_behind s h) hs
 
 -- all that is written
-abbrev pub output_on : Kept → List Happening → List ℕ
-output_on kept [] = []
-output_on kept (h ∷ hs) = written_for kept h ++ output_on (kept_behind kept h) hs
+abbrev pub output_on : RunState → List Happening → List ℕ
+output_on s [] = []
+output_on s (h ∷ hs) = written_for s h ++ output_on (run_behind s h) hs
 
--- each reply has the content that its answer says
-abbrev pub HaveContents : Kept → List Happening → Type 0
-HaveContents kept [] = Unit {0}
-HaveContents kept (h ∷ hs) = FitsHappening kept h × HaveContents (kept_behind kept h) hs
+-- each reply has the content that its answer says, and each step is one of its drive's table
+abbrev pub HaveContents : RunState → List Happening → Type 0
+HaveContents s [] = Unit {0}
+HaveContents s (h ∷ hs) = FitsHappening s h × HaveContents (run_behind s h) hs
+
+-- each step asks what a session may ask
+abbrev pub AskFitly : RunState → List Happening → Type 0
+AskFitly s [] = Unit {0}
+AskFitly s (h ∷ hs) = AsksFit s h × AskFitly (run_behind s h) hs
 
 -- the texts of the replies on a link
-abbrev pub reply_on : ℕ → Kept → Happening → List (List ℕ)
-reply_on link kept (Answered l moment exchange) = if l == link then event_text kept moment exchange.content exchange.event ∷ [] else []
-reply_on link kept (Stepped drive moment line) = []
+abbrev pub reply_on : ℕ → RunState → Happening → List (List ℕ)
+reply_on link s (Answered l moment exchange) = if l == link then event_text (kept_in s) moment exchange.content exchange.event ∷ [] else []
+reply_on link s (Stepped _ _ _ _) = []
 
 -- the same, of all that happens
-abbrev pub replies_on : ℕ → Kept → List Happening → List (List ℕ)
-replies_on link kept [] = []
-replies_on link kept (h ∷ hs) = reply_on link kept h ++ replies_on link (kept_behind kept h) hs
+abbrev pub replies_on : ℕ → RunState → List Happening → List (List ℕ)
+replies_on link s [] = []
+replies_on link s (h ∷ hs) = reply_on link s h ++ replies_on link (run_behind s h) hs
 
 -- ---- a run
 
--- all that is written for a run, by an archive of the site that has kept nothing before
-abbrev pub output_of : Site → List ScriptTurn → List ℕ
-output_of site turns = output_on (fresh site) (all_happenings turns)
+-- all that is written for a run from its start, over drives that are seen so at first
+abbrev pub output_of : Site → List DriveView → List ScriptTurn → List ℕ
+output_of site seen turns = output_on (begun_with site seen) (all_happenings turns)
 
--- the history that such an archive has kept behind a run
-abbrev pub history_of_run : Site → List ScriptTurn → History
-history_of_run site turns = (after (fresh site) (all_happenings turns)).history
+-- the history that an archive has kept behind such a run
+abbrev pub history_of_run : Site → List DriveView → List ScriptTurn → History
+history_of_run site seen turns = (after (begun_with site seen) (all_happenings turns)).history

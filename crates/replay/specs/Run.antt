@@ -3,6 +3,8 @@ use Rattle.std.specs.Prelude.{◌≡◌, ℕ, ◌==◌, List, [], ◌∷◌, Opt
 use Rattle.std.specs.List.{flat_map}
 use Rattle.cta_site.specs.declared.site.Site.{Site}
 use Rattle.conn.specs.Cut.{Event}
+use Rattle.drive_session.specs.declared.reports.Done.{Done}
+use Rattle.media.specs.Drives.{DriveView}
 use Rattle.links.specs.Run.{Turn, IsRun}
 use Rattle.replay.specs.Script.{Record, OfLink, OfDrive, feed}
 
@@ -23,15 +25,15 @@ events_of exchanges = map event_of exchanges
 abbrev pub bare_exchanges : List Event → List Exchange
 bare_exchanges events = map (λ e. record { event = e; content = None }) events
 
--- a record and what it brings about: bytes complete events on their link, and a step of a drive gives the bytes of its line
+-- a record and what it brings about: bytes complete events on their link, and in a step of a drive its device answers so, if a call is made, and is then seen so
 pub data ScriptTurn : Type 0 where
   OnLink : (link moment : ℕ) (bytes : List ℕ) (exchanges : List Exchange) → ScriptTurn
-  OnDrive : (drive moment : ℕ) (line : List ℕ) → ScriptTurn
+  OnDrive : (drive moment : ℕ) (done : Option Done) (seen : DriveView) → ScriptTurn
 
 -- the record of a turn
 abbrev pub record_of : ScriptTurn → Record
 record_of (OnLink link moment bytes exchanges) = OfLink (feed link moment bytes)
-record_of (OnDrive drive moment line) = OfDrive drive moment
+record_of (OnDrive drive moment _ _) = OfDrive drive moment
 
 -- the turn of a link, by its parts
 abbrev pub turn_with : ℕ → ℕ → List ℕ → List Event → Turn
@@ -40,7 +42,7 @@ turn_with link moment bytes events = record { link = link; moment = moment; byte
 -- the turn of the links that a turn of the script is, if it is one
 abbrev pub links_turn : ScriptTurn → List Turn
 links_turn (OnLink link moment bytes exchanges) = turn_with link moment bytes (events_of exchanges) ∷ []
-links_turn (OnDrive drive moment line) = []
+links_turn (OnDrive _ _ _ _) = []
 
 -- the turns of the links among those of the script
 abbrev pub links_turns : List ScriptTurn → List Turn
@@ -49,7 +51,7 @@ links_turns turns = flat_map links_turn turns
 -- what happens in a run: an event of a link is answered, or a drive makes a step
 pub data Happening : Type 0 where
   Answered : (link moment : ℕ) (exchange : Exchange) → Happening
-  Stepped : (drive moment : ℕ) (line : List ℕ) → Happening
+  Stepped : (drive moment : ℕ) (done : Option Done) (seen : DriveView) → Happening
 
 -- exchanges on a link, at a moment
 abbrev pub answered_on : ℕ → ℕ → List Exchange → List Happening
@@ -58,7 +60,7 @@ answered_on link moment exchanges = map (Answered link moment) exchanges
 -- what happens in a turn
 abbrev pub happenings_of : ScriptTurn → List Happening
 happenings_of (OnLink link moment bytes exchanges) = answered_on link moment exchanges
-happenings_of (OnDrive drive moment line) = Stepped drive moment line ∷ []
+happenings_of (OnDrive drive moment done seen) = Stepped drive moment done seen ∷ []
 
 -- what happens in turns, in order
 abbrev pub all_happenings : List ScriptTurn → List Happening
@@ -68,15 +70,19 @@ all_happenings turns = flat_map happenings_of turns
 abbrev pub IsScriptRun : Site → List Record → List ScriptTurn → Type 0
 IsScriptRun site records turns = (map record_of turns ≡ records) × IsRun site.limits.file (links_turns turns)
 
--- the contents that go out in a turn, in the order of its events
-abbrev pub contents_in : ScriptTurn → List (Option (List ℕ))
-contents_in (OnLink link moment bytes exchanges) = map (λ x. x.content) exchanges
-contents_in (OnDrive drive moment line) = []
+-- what a turn has from outside: the contents that go out, in the order of its events; or what the device has answered, and how it is seen then
+pub data FromOutside : Type 0 where
+  Contents : List (Option (List ℕ)) → FromOutside
+  Device : Option Done → DriveView → FromOutside
+
+abbrev pub from_outside : ScriptTurn → FromOutside
+from_outside (OnLink link moment bytes exchanges) = Contents (map (λ x. x.content) exchanges)
+from_outside (OnDrive drive moment done seen) = Device done seen
 
 -- what happens on a link
 abbrev pub happening_on : ℕ → Happening → List Happening
 happening_on link (Answered l moment exchange) = if l == link then Answered l moment exchange ∷ [] else []
-happening_on link (Stepped drive moment line) = []
+happening_on link (Stepped _ _ _ _) = []
 
 -- what happens on a link, of all that happens
 abbrev pub happenings_on : ℕ → List Happening → List Happening

@@ -35,16 +35,7 @@ abbrev pub IsRecord : Site → Record → Type 0
 IsRecord site (OfLink f) = IsHttp f.link f.moment (length f.bytes)
 IsRecord site (OfDrive drive moment) = IsDriveStep site drive moment
 
--- a record of a kind that is built: steps are not built yet
-abbrev pub IsBuilt : Record → Type 0
-IsBuilt (OfLink f) = Unit {0}
-IsBuilt (OfDrive drive moment) = ⊥
-
--- a record that is carried out
-abbrev pub IsCarriedOut : Site → Record → Type 0
-IsCarriedOut site r = IsRecord site r × IsBuilt r
-
--- what stands behind the last whole record that is carried out
+-- what stands behind the last whole record
 pub data ScriptTail : Type 0 where
   -- the line `end`
   Ended : ScriptTail
@@ -58,8 +49,6 @@ pub data ScriptTail : Type 0 where
   LongLine : (part : List ℕ) → ScriptTail
   -- an `http` record with another byte where its last LF should stand
   NoLf : (link moment : ℕ) (bytes : List ℕ) (byte : ℕ) → ScriptTail
-  -- a whole `step` record, which is not built
-  UnbuiltStep : (drive moment : ℕ) → ScriptTail
 
 -- the bytes of a tail
 abbrev pub tail_bytes : Site → ScriptTail → List ℕ
@@ -69,7 +58,6 @@ tail_bytes site (InBytes link moment len held) = feeding link moment len held
 tail_bytes site (BadLine line) = ended line
 tail_bytes site (LongLine part) = part
 tail_bytes site (NoLf link moment bytes byte) = feeding link moment (length bytes) bytes ++ byte ∷ []
-tail_bytes site (UnbuiltStep drive moment) = ended (text site (Step drive moment))
 
 -- a tail that is what it says
 abbrev pub IsScriptTail : Site → ScriptTail → Type 0
@@ -79,7 +67,6 @@ IsScriptTail site (InBytes link moment len held) = IsHttp link moment len × (le
 IsScriptTail site (BadLine line) = Without 10 line × (length line ≤ 256) × ((l : Line) → IsLine site l → text site l ≢ line)
 IsScriptTail site (LongLine part) = Without 10 part × (length part ≡ 257)
 IsScriptTail site (NoLf link moment bytes byte) = IsHttp link moment (length bytes) × (byte ≢ 10)
-IsScriptTail site (UnbuiltStep drive moment) = IsDriveStep site drive moment
 
 -- the bytes of a cut record come to its link as they are, as a record of their own would bring them
 abbrev pub tail_records : ScriptTail → List Record
@@ -89,7 +76,6 @@ tail_records (InBytes link moment len held) = OfLink (feed link moment held) ∷
 tail_records (BadLine line) = []
 tail_records (LongLine part) = []
 tail_records (NoLf link moment bytes byte) = OfLink (feed link moment bytes) ∷ []
-tail_records (UnbuiltStep drive moment) = []
 
 -- more may come
 abbrev pub MayGoOn : ScriptTail → Type 0
@@ -99,7 +85,6 @@ MayGoOn (InBytes link moment len held) = Unit {0}
 MayGoOn (BadLine line) = ⊥
 MayGoOn (LongLine part) = ⊥
 MayGoOn (NoLf link moment bytes byte) = ⊥
-MayGoOn (UnbuiltStep drive moment) = ⊥
 
 -- no record goes on so, and this many bytes of the tail stand before the fault
 abbrev pub IsRefusedAt : ScriptTail → ℕ → Type 0
@@ -109,19 +94,8 @@ IsRefusedAt (InBytes link moment len held) at = ⊥
 IsRefusedAt (BadLine line) at = at ≡ 0
 IsRefusedAt (LongLine part) at = at ≡ 0
 IsRefusedAt (NoLf link moment bytes byte) at = at ≡ length (feeding link moment (length bytes) bytes)
-IsRefusedAt (UnbuiltStep drive moment) at = ⊥
 
--- a whole record that is not built
-abbrev pub IsUnbuilt : ScriptTail → Type 0
-IsUnbuilt Ended = ⊥
-IsUnbuilt (InLine part) = ⊥
-IsUnbuilt (InBytes link moment len held) = ⊥
-IsUnbuilt (BadLine line) = ⊥
-IsUnbuilt (LongLine part) = ⊥
-IsUnbuilt (NoLf link moment bytes byte) = ⊥
-IsUnbuilt (UnbuiltStep drive moment) = Unit {0}
-
--- a script that was cut somewhere: its whole records that are carried out, and what stands behind them
+-- a script that was cut somewhere: its whole records, and what stands behind them
 pub record ScriptCut : Type 0 where
   pub whole : List Record
   pub tail : ScriptTail
@@ -140,7 +114,7 @@ cut_records c = c.whole ++ tail_records c.tail
 
 -- each of its parts is what it says
 abbrev pub IsScriptCut : Site → ScriptCut → Type 0
-IsScriptCut site c = AllByRecursion (IsCarriedOut site) c.whole × IsScriptTail site c.tail
+IsScriptCut site c = AllByRecursion (IsRecord site) c.whole × IsScriptTail site c.tail
 
 -- a script is read in one way: of two cuts with the same bytes, both are one
 abbrev pub HasOneReading : Site → Type 0

@@ -1,28 +1,51 @@
-// What a script meets: an archive behind its routes, and the links.
+// What a script meets: a desk with an archive and its drives, and the links.
 ghost use Rattle.std.specs.Prelude.{◌≡◌, [], IfOk};
 ghost use Rattle.links.specs.Standing.{LinksStand};
+ghost use Rattle.replay.specs.Desk.{Begins};
+ghost use Rattle.replay.specs.Output.{fresh};
 
-use crate::service::Service;
+use crate::desk::Desk;
 use archive::Archive;
 use cta_model::NoMemory;
 use links::Links;
+use media::{Bench, TapeDrive};
 use std::alloc::Global;
 
-// An archive behind its routes, and the links over which requests come to it.
-#[derive(Drop)]
-pub(crate) struct Front {
-    pub(crate) service: Service,
+// A desk, and the links over which requests come to it. It is let go by `let_go` alone.
+pub(crate) struct Front<D: TapeDrive + Drop> {
+    pub(crate) desk: Desk<D>,
     pub(crate) links: Links,
 }
 
-impl Front {
-    // This archive, with its routes made ready and with links of which nothing was read. NoMemory lets the archive go.
-    pub(crate) fn new(alloc: Global, archive: Archive) -> Result<Front, NoMemory>
-        ensures archive { IfOk result (λ front. front.service.archive ≡ archive) }
-        ensures links { IfOk result (λ front. LinksStand front.links front.service.archive.site.limits.file (λ link. []) (λ link. [])) }
+impl<D: TapeDrive + Drop> Front<D> {
+    // A desk for an archive that has kept nothing yet, over drives that the bench makes, with links of which nothing was read.
+    // NoMemory lets the archive go.
+    pub(crate) fn new<B: Bench<D>>(
+        alloc: Global,
+        archive: Archive<D::Medium>,
+        bench: &mut B,
+    ) -> Result<Front<D>, NoMemory>
+        requires { archive ≡ fresh archive.site }
+        ensures begins { IfOk result (λ front. Begins (B.tells bench.old) archive.site front.desk) }
+        ensures links { IfOk result (λ front. LinksStand front.links archive.site.limits.file (λ link. []) (λ link. [])) }
     {
-        let links = Links::new(alloc, archive.site().limits().file)?;
-        let service = Service::new(alloc, archive)?;
-        Ok(Front { service, links })
+        let links = match Links::new(alloc, archive.site().limits().file) {
+            Ok(links) => links,
+            Err(error) => {
+                archive.let_go();
+                return Err(error);
+            }
+        };
+        let desk = Desk::new(alloc, archive, bench)?;
+        Ok(Front { desk, links })
+    }
+
+    // Lets the desk and the links go.
+    pub(crate) fn let_go(self) {
+        let Front {
+            desk,
+            links: _links,
+        } = self;
+        desk.let_go();
     }
 }

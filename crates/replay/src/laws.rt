@@ -7,6 +7,7 @@ ghost use Rattle.replay.specs.Laws.{HasLinksApart, HasOneOutput, KeepsLegalHisto
 use cta_model::histories_stay_legal;
 use cta_site::valid_is_well_formed;
 use links::one_run;
+use tape_routes::callers_ask;
 
 /// The bytes of a script that was cut somewhere are read in one way: for a valid site, two cuts with the same bytes are
 /// one cut, with the same whole records and the same tail. So the bytes that a run has taken tell what it brought. A law
@@ -45,4 +46,5 @@ pub fn runs_keep_legal_histories()
     ensures { KeepsLegalHistories }
 {
     histories_stay_legal();
+    callers_ask();
 }

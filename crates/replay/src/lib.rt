@@ -5,17 +5,20 @@
 #![tactic(auto)]
 
 mod bytes;
+mod desk;
 mod feeding;
 mod front;
 mod intake;
 mod laws;
 mod line;
+mod opening;
 mod output;
 mod record;
 mod run;
 mod service;
 mod site;
 mod status;
+mod step_lines;
 #[cfg(test)]
 mod tests;
 mod top;

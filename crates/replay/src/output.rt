@@ -13,9 +13,10 @@ ghost use Rattle.replay.specs.Output.{frame};
 ghost use Rattle.replay.specs.Outcome.{AnswersEvents, IsFramed};
 ghost use Rattle.replay.specs.declared.output.Unwritten.TheVariants.{Broken};
 
-use crate::service::Service;
+use crate::desk::Desk;
 use conn::{Next, continue_text};
 use cta_model::NoMemory;
+use media::TapeDrive;
 use outside::Sink;
 use std::alloc::Global;
 use wire_http::{Request, WireRefusal, refusal_reply, write_reply};
@@ -51,7 +52,7 @@ fn frame_of(alloc: Global, link: u32, text: &[u8]) -> Result<Vec<u8>, NoMemory>
 }
 
 // Writes bytes.
-fn put<K: Sink>(out: &mut K, bytes: &[u8]) -> Result<(), Unwritten>
+pub(crate) fn put<K: Sink>(out: &mut K, bytes: &[u8]) -> Result<(), Unwritten>
     ensures put { MatchResult result (λ _. Appends (K.written out.old) (K.written out.new) bytes.now)
         (λ why. (why ≡ Broken) × AppendsFront (K.written out.old) (K.written out.new) bytes.now × Rose (K.faults out.old) (K.faults out.new)) }
     ensures later { K.faults out.old ≤ K.faults out.new }
@@ -100,37 +101,39 @@ fn refuse<K: Sink>(
 }
 
 // Answers a request, and writes the frame of the reply.
-fn answer<K: Sink>(
+fn answer<K: Sink, D: TapeDrive + Drop>(
     alloc: Global,
-    service: &mut Service,
+    desk: &mut Desk<D>,
     out: &mut K,
     link: u32,
     moment: u64,
     request: Request,
 ) -> Result<(), Unwritten>
     requires { moment ≤ greatest_moment }
-    ensures answered { AnswersEvents result service.old.archive service.new.archive link moment (Requests request ∷ [])
+    ensures answered { AnswersEvents result desk.old.run desk.new.run link moment (Requests request ∷ [])
         (sink_view (K.written out.old) (K.faults out.old)) (sink_view (K.written out.new) (K.faults out.new)) }
+    ensures ready { OnOk result (desk.new.ready ≡ desk.old.ready) }
     ensures later { K.faults out.old ≤ K.faults out.new }
 {
-    match service.answer(alloc, moment, request) {
+    match desk.answer(alloc, moment, request) {
         Ok(text) => put_reply(alloc, out, link, &text),
         Err(_) => Err(Unwritten::Wanting),
     }
 }
 
 // Answers an event of a link, and writes the frame of the reply.
-fn answer_event<K: Sink>(
+fn answer_event<K: Sink, D: TapeDrive + Drop>(
     alloc: Global,
-    service: &mut Service,
+    desk: &mut Desk<D>,
     out: &mut K,
     link: u32,
     moment: u64,
     event: Next,
 ) -> Result<(), Unwritten>
     requires { moment ≤ greatest_moment }
-    ensures answered { AnswersEvents result service.old.archive service.new.archive link moment (next_events event)
+    ensures answered { AnswersEvents result desk.old.run desk.new.run link moment (next_events event)
         (sink_view (K.written out.old) (K.faults out.old)) (sink_view (K.written out.new) (K.faults out.new)) }
+    ensures ready { OnOk result (desk.new.ready ≡ desk.old.ready) }
     ensures later { K.faults out.old ≤ K.faults out.new }
 {
     match event {
@@ -138,29 +141,30 @@ fn answer_event<K: Sink>(
         Next::Closed => Ok(()),
         Next::Continue => put_reply(alloc, out, link, continue_text()),
         Next::Refused(refusal) => refuse(alloc, out, link, refusal),
-        Next::Request(request) => answer(alloc, service, out, link, moment, request),
+        Next::Request(request) => answer(alloc, desk, out, link, moment, request),
     }
 }
 
 // Answers the events of a link in order, each at this moment on what those before it left, and writes the frame of each
 // reply. An event is let go once it was answered.
-pub(crate) fn answer_events<K: Sink>(
+pub(crate) fn answer_events<K: Sink, D: TapeDrive + Drop>(
     alloc: Global,
-    service: &mut Service,
+    desk: &mut Desk<D>,
     out: &mut K,
     link: u32,
     moment: u64,
     mut events: Vec<Next>,
 ) -> Result<(), Unwritten>
     requires { moment ≤ greatest_moment }
-    ensures answered { AnswersEvents result service.old.archive service.new.archive link moment (given_by events.items)
+    ensures answered { AnswersEvents result desk.old.run desk.new.run link moment (given_by events.items)
         (sink_view (K.written out.old) (K.faults out.old)) (sink_view (K.written out.new) (K.faults out.new)) }
+    ensures ready { OnOk result (desk.new.ready ≡ desk.old.ready) }
     ensures later { K.faults out.old ≤ K.faults out.new }
 {
     // The first event is then the last of the list, from which it is taken.
     events.reverse();
     'events: while let Some(event) = events.pop() {
-        if let Err(why) = answer_event(alloc, service, out, link, moment, event) {
+        if let Err(why) = answer_event(alloc, desk, out, link, moment, event) {
             return Err(why);
         }
     }

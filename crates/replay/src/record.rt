@@ -1,20 +1,24 @@
 // One record of a script, read and answered.
-ghost use Rattle.std.specs.Prelude.{◌≡◌, ◌≤◌, ◌<◌, List, length};
+ghost use Rattle.std.specs.Prelude.{◌≡◌, ◌≤◌, ◌<◌, List, length, true, IfNone};
 ghost use Rattle.links.specs.Run.{Turn};
 ghost use Rattle.links.specs.Standing.{StandFor};
 ghost use Rattle.replay.specs.Intake.{budget};
-ghost use Rattle.replay.specs.Line.{http_text, IsHttp};
+ghost use Rattle.replay.specs.Line.{http_text, IsDriveStep, IsHttp};
 ghost use Rattle.replay.specs.Script.{ended};
 ghost use Rattle.replay.specs.Seen.{script_view, sink_view, world};
 ghost use Rattle.replay.specs.Outcome.{Turns, TurnsAfter, TookLf, stop_status, unwritten_status};
+ghost use Rattle.replay.specs.StepRecords.{HasStepped, halt_status};
 
+use crate::desk::Halt;
 use crate::feeding::{FeedEnd, feed_record};
 use crate::front::Front;
 use crate::intake::{LINE, LineEnd, Stop, take_byte, take_line};
 use crate::line::{HttpLine, Line, line_of};
 use crate::output::Unwritten;
 use crate::status::Status;
+use crate::step_lines::put_line;
 use links::runs_follow;
+use media::TapeDrive;
 use outside::{Sink, Source};
 use std::alloc::Global;
 
@@ -56,9 +60,9 @@ fn last_lf<S: Source>(script: &mut S, taken: &mut u64) -> Option<Status>
 }
 
 // An `http` record behind its line.
-fn http_record<S: Source, K: Sink>(
+fn http_record<S: Source, K: Sink, D: TapeDrive + Drop>(
     alloc: Global,
-    front: &mut Front,
+    front: &mut Front<D>,
     script: &mut S,
     taken: &mut u64,
     out: &mut K,
@@ -69,10 +73,11 @@ fn http_record<S: Source, K: Sink>(
     requires begun { length (ended (http_text line.link line.moment line.len)) ≤ taken.old }
     requires within { taken.old ≤ budget }
     requires buffer { 0 < length buffer.old }
-    ensures turns { (before : List Turn) → StandFor front.old.links front.old.service.archive.site.limits.file before
-        → TurnsAfter result front.new.links front.old.service.archive front.new.service.archive before (ended (http_text line.link line.moment line.len))
+    ensures turns { (before : List Turn) → StandFor front.old.links front.old.desk.run.site.limits.file before
+        → TurnsAfter result front.new.links front.old.desk.run front.new.desk.run before (ended (http_text line.link line.moment line.len))
         (world (script_view (S.left script.old) taken.old (S.faults script.old)) (sink_view (K.written out.old) (K.faults out.old)))
         (world (script_view (S.left script.new) taken.new (S.faults script.new)) (sink_view (K.written out.new) (K.faults out.new))) }
+    ensures ready { IfNone result (front.new.desk.ready ≡ front.old.desk.ready) }
     ensures later { (S.faults script.old ≤ S.faults script.new) × (K.faults out.old ≤ K.faults out.new) }
     ensures within { taken.new ≤ budget }
 {
@@ -84,10 +89,46 @@ fn http_record<S: Source, K: Sink>(
     }
 }
 
-// Reads one record and answers what it completes, or ends the script. `buffer` is room for a piece of a record's bytes.
-pub(crate) fn one_record<S: Source, K: Sink>(
+// The status of a step that was not carried out, on the line that begins at this byte.
+fn halted(why: Halt, start: u64) -> Status
+    ensures { result ≡ halt_status why start }
+{
+    match why {
+        Halt::Unserved => Status::NotBuilt { offset: start },
+        Halt::Wanting => Status::NoMemory,
+    }
+}
+
+// A `step` record behind its line, which begins at this byte of the script: the step is made, and its line written.
+fn step_record<K: Sink, D: TapeDrive + Drop>(
     alloc: Global,
-    front: &mut Front,
+    front: &mut Front<D>,
+    start: u64,
+    out: &mut K,
+    drive: u32,
+    moment: u64,
+) -> Option<Status>
+    requires step { IsDriveStep front.old.desk.run.site drive moment }
+    requires ready { front.old.desk.ready ≡ true }
+    ensures stepped { HasStepped result front.old.desk.run front.new.desk.run start drive moment
+        (sink_view (K.written out.old) (K.faults out.old)) (sink_view (K.written out.new) (K.faults out.new)) }
+    ensures links { front.new.links ≡ front.old.links }
+    ensures ready { IfNone result (front.new.desk.ready ≡ true) }
+    ensures later { K.faults out.old ≤ K.faults out.new }
+{
+    match front.desk.step(drive, moment) {
+        Ok(line) => match put_line(alloc, front.desk.site(), out, drive, line) {
+            Ok(()) => None,
+            Err(why) => Some(unwritten(why)),
+        },
+        Err(why) => Some(halted(why, start)),
+    }
+}
+
+// Reads one record and answers what it completes, or ends the script. `buffer` is room for a piece of a record's bytes.
+pub(crate) fn one_record<S: Source, K: Sink, D: TapeDrive + Drop>(
+    alloc: Global,
+    front: &mut Front<D>,
     script: &mut S,
     taken: &mut u64,
     out: &mut K,
@@ -95,10 +136,12 @@ pub(crate) fn one_record<S: Source, K: Sink>(
 ) -> Option<Status>
     requires within { taken.old ≤ budget }
     requires buffer { 0 < length buffer.old }
-    ensures turns { (before : List Turn) → StandFor front.old.links front.old.service.archive.site.limits.file before
-        → Turns result front.new.links front.old.service.archive front.new.service.archive before
+    requires ready { front.old.desk.ready ≡ true }
+    ensures turns { (before : List Turn) → StandFor front.old.links front.old.desk.run.site.limits.file before
+        → Turns result front.new.links front.old.desk.run front.new.desk.run before
         (world (script_view (S.left script.old) taken.old (S.faults script.old)) (sink_view (K.written out.old) (K.faults out.old)))
         (world (script_view (S.left script.new) taken.new (S.faults script.new)) (sink_view (K.written out.new) (K.faults out.new))) }
+    ensures ready { IfNone result (front.new.desk.ready ≡ true) }
     ensures later { (S.faults script.old ≤ S.faults script.new) × (K.faults out.old ≤ K.faults out.new) }
     ensures within { taken.new ≤ budget }
 {
@@ -107,10 +150,12 @@ pub(crate) fn one_record<S: Source, K: Sink>(
     match take_line(script, taken, &mut line) {
         LineEnd::Stopped(why) => Some(stopped(why, *taken)),
         LineEnd::Long => Some(Status::Script { offset: start }),
-        LineEnd::Whole(n) => match line_of(&line[..n], front.service.archive.site()) {
+        LineEnd::Whole(n) => match line_of(&line[..n], front.desk.site()) {
             None => Some(Status::Script { offset: start }),
             Some(Line::End) => Some(Status::Ok),
-            Some(Line::Step { .. }) => Some(Status::NotBuilt { offset: start }),
+            Some(Line::Step { drive, moment }) => step_record(
+                alloc, front, start, out, drive, moment,
+            ),
             Some(Line::Http(http)) => http_record(alloc, front, script, taken, out, buffer, http),
         },
     }

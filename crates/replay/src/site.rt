@@ -4,12 +4,15 @@ ghost use Rattle.cta_site.specs.Faults.{IsCauseOf};
 ghost use Rattle.replay.specs.Seen.{source_view};
 ghost use Rattle.replay.specs.SiteFile.{ArchiveMade, IsSiteOf, IsStatusOf, SiteRead, TookSite, site_fault};
 
+use crate::opening::open_archive;
 use crate::status::Status;
 use archive::Archive;
 use cta_site::{SiteError, ValidSite};
+use media::{Bench, TapeDrive};
 use outside::{Failed, Source};
 use site_json::read_site;
 use std::alloc::Global;
+use std::hash::RandomState;
 
 // The most bytes of a site file.
 const SITE_LIMIT: usize = 16_777_216;
@@ -71,12 +74,18 @@ fn site_of(alloc: Global, bytes: &[u8]) -> Result<ValidSite, SiteError>
     }
 }
 
-// An archive of the site that these bytes tell.
-fn archive_of(alloc: Global, bytes: &[u8]) -> Result<Archive, Status>
-    ensures { ArchiveMade result bytes.now }
+// An archive of the site that these bytes tell, with the media that the bench makes.
+fn archive_of<D: TapeDrive, B: Bench<D>>(
+    alloc: Global,
+    bytes: &[u8],
+    bench: &mut B,
+    keys: RandomState,
+) -> Result<Archive<D::Medium>, Status>
+    ensures made { ArchiveMade result bytes.now }
+    ensures tells { B.tells bench.new ≡ B.tells bench.old }
 {
     match site_of(alloc, bytes) {
-        Ok(site) => match Archive::new(alloc, site) {
+        Ok(site) => match open_archive(alloc, site, bench, keys) {
             Ok(archive) => Ok(archive),
             Err(_) => Err(Status::NoMemory),
         },
@@ -85,12 +94,18 @@ fn archive_of(alloc: Global, bytes: &[u8]) -> Result<Archive, Status>
 }
 
 // An archive of the site that a site file tells, which has kept nothing yet, or why there is none.
-pub(crate) fn read_archive<A: Source>(alloc: Global, site: &mut A) -> Result<Archive, Status>
-    ensures { SiteRead result (source_view (A.left site.old) (A.faults site.old)) (source_view (A.left site.new) (A.faults site.new)) }
+pub(crate) fn read_archive<A: Source, D: TapeDrive, B: Bench<D>>(
+    alloc: Global,
+    site: &mut A,
+    bench: &mut B,
+    keys: RandomState,
+) -> Result<Archive<D::Medium>, Status>
+    ensures read { SiteRead result (source_view (A.left site.old) (A.faults site.old)) (source_view (A.left site.new) (A.faults site.new)) }
+    ensures tells { B.tells bench.new ≡ B.tells bench.old }
 {
     let mut bytes = Vec::new(alloc);
     match take_site(site, &mut bytes) {
-        SiteEnd::Whole => archive_of(alloc, &bytes),
+        SiteEnd::Whole => archive_of(alloc, &bytes, bench, keys),
         SiteEnd::Long => Err(Status::Site { rule: 1, item: 0 }),
         SiteEnd::Fault => Err(Status::ReadFault),
         SiteEnd::Memory => Err(Status::NoMemory),

@@ -1,6 +1,8 @@
 // Whole runs over sources and a sink in memory.
 use crate::{Status, replay_top};
+use media::MemBench;
 use outside::{MemSink, MemSource};
+use std::hash::RandomState;
 use std::test::Fail;
 
 // The site file.
@@ -44,7 +46,17 @@ fn ends(
     let mut site = MemSource::new(site, Vec::new(rt.alloc()));
     let mut script = MemSource::new(bytes, Vec::new(rt.alloc()));
     let mut out = MemSink::new(rt.alloc(), Vec::new(rt.alloc()));
-    let ended = replay_top(rt.alloc(), &words, &mut site, &mut script, &mut out);
+    let mut bench = MemBench::new(rt.alloc());
+    let keys = RandomState::new(rt)?;
+    let ended = replay_top(
+        rt.alloc(),
+        &words,
+        &mut site,
+        &mut script,
+        &mut out,
+        &mut bench,
+        keys,
+    );
     let wanted = joined(rt, frames)?;
     Ok(ended == status && out.bytes() == wanted.as_slice() && script.left() == rest)
 }
@@ -56,16 +68,9 @@ fn what_is_left(rt: HostRuntime) -> Result<(), Fail> {
     assert!(rt; ends(&rt, whole, b"more", Status::Ok, &[STORED, ON_DISK])?);
     let cut: &[&[u8]] = &[b"http 0 100 5\nhelloo"];
     assert!(rt; ends(&rt, cut, b"\nend\n", Status::Script { offset: 18 }, &[])?);
-    let step: &[&[u8]] = &[PUT_A, b"step d1 100\n"];
-    assert!(rt;
-        ends(
-            &rt,
-            step,
-            b"end\n",
-            Status::NotBuilt { offset: 78 },
-            &[STORED]
-        )?
-    );
+    let step: &[&[u8]] = &[PUT_A, b"step d1 100\n", b"end\n"];
+    let mounted: &[&[u8]] = &[STORED, b"step d1 mount archive V1\n"];
+    assert!(rt; ends(&rt, step, b"more", Status::Ok, mounted)?);
     Ok(())
 }
 
@@ -88,7 +93,17 @@ fn failing_run(rt: &HostRuntime, site: u64, script: u64, out: u64) -> Result<End
     let bytes = joined(rt, &[PUT_A, INFO_A, b"end\n"])?;
     let mut script = MemSource::new(bytes, vec![in rt.alloc(); script]?);
     let mut out = MemSink::new(rt.alloc(), vec![in rt.alloc(); out]?);
-    let status = replay_top(rt.alloc(), &words, &mut site, &mut script, &mut out);
+    let mut bench = MemBench::new(rt.alloc());
+    let keys = RandomState::new(rt)?;
+    let status = replay_top(
+        rt.alloc(),
+        &words,
+        &mut site,
+        &mut script,
+        &mut out,
+        &mut bench,
+        keys,
+    );
     let written = joined(rt, &[out.bytes()])?;
     let left = script.left().len();
     Ok(Ended {

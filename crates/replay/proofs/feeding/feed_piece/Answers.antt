@@ -28,6 +28,6 @@ returns-in-Err-clause-feeds g c = λ limit before bytes events h.
       more = bare_exchanges goes_on.0;
       run = subst (λ es. IsRun limit (before ++ turn_with c.args.link c.args.moment (bytes ++ c.args.piece.now) (events ++ es) ∷ [])) (sym (events_of-bare goes_on.0)) goes_on.1;
       stands = tt;
-      written = first_none c.args.front.now.service.archive (sink_view (g.K.Sink.written c.args.out.now) (g.K.Sink.faults c.args.out.now)) (answered_on c.args.link c.args.moment (bare_exchanges goes_on.0));
+      written = first_none c.args.front.now.desk.run (sink_view (g.K.Sink.written c.args.out.now) (g.K.Sink.faults c.args.out.now)) (answered_on c.args.link c.args.moment (bare_exchanges goes_on.0));
       keeps = tt;
     }

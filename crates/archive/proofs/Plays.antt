@@ -1,0 +1,57 @@
+-- What an archive answers to an ask is what a turn is answered.
+use Rattle.std.proofs.Common.{◌≡◌, ℕ, Bool, true, false, refl, ap, ◌∙◌, ◌∷◌}
+use Rattle.std.specs.Prelude.{Option, if◌then◌else◌, Result, Ok, Err, IfOk, IfErr, OnErr}
+use Rattle.blob.specs.Records.{TapeRecords}
+use Rattle.cta_site.specs.declared.site.Site.{Site}
+use Rattle.cta_site.specs.declared.no_memory.NoMemory.{NoMemory}
+use Rattle.cta_model.specs.declared.asks.Ask.{Ask}
+use Rattle.cta_model.specs.declared.asks.Ask.TheVariants as ask
+use Rattle.cta_model.specs.declared.answers.Answer.{Answer}
+use Rattle.cta_model.specs.declared.hands.Hand.{Hand}
+use Rattle.cta_model.specs.History.{History}
+use Rattle.cta_model.specs.Answers.{is_accepted}
+use Rattle.cta_model.specs.Bare.{bare_answer, bare_ask}
+use Rattle.cta_model.specs.Hands.{HandBack, HandOut}
+use Rattle.cta_model.specs.Kept.{Kept, kept_after}
+use Rattle.cta_model.specs.Legal.{new_entry}
+use Rattle.served.specs.Served.{served_answer}
+use Rattle.archive_turns.specs.declared.calls.ArchiveCall.TheVariants as call
+use Rattle.archive_turns.specs.declared.calls.ArchiveBack.TheVariants as back
+use Rattle.archive_turns.specs.Plays.{Returns}
+
+-- ---- an ask with no room to spare in its lists is answered as the ask itself
+
+served_answer-bare : (site : Site) (h : History) (t : ℕ) (k : Ask) → served_answer site h t (bare_ask k) ≡ served_answer site h t k
+served_answer-bare site h t (ask.Flushed m items) = refl
+served_answer-bare site h t _ = refl
+
+-- ---- what is kept
+
+entry_or_none : (b : Bool) (kept : Kept) (t : ℕ) (k : Ask) (a : Answer) → (if b then record kept { history = new_entry kept.history t k a ∷ kept.history } else kept).history ≡ (if b then new_entry kept.history t k a ∷ kept.history else kept.history)
+entry_or_none true kept t k a = refl
+entry_or_none false kept t k a = refl
+
+module _ {M : Type 0} (told : M → Option TapeRecords) where
+  -- ---- hands
+
+  out-bare : (h later : History) (k : Ask) (a : Answer) (out : Hand M) → HandOut told h later (bare_ask k) a out → HandOut told h later k a out
+  out-bare h later (ask.Flushed m items) a out is = is
+  out-bare h later _ a out is = is
+
+  back-bare : (b : Bool) (h later : History) (k : Ask) (a : Answer) (in_hand out : Hand M) → HandBack told b h later (bare_ask k) a in_hand out → HandBack told b h later k a in_hand out
+  back-bare true h later k a in_hand out is = out-bare h later k a out is
+  back-bare false h later k a in_hand out is = is
+
+  -- ---- what comes back
+
+  pub asked : (before after : Kept) (t : ℕ) (k : Ask) (in_hand : Hand M) (r : Result (Answer × Hand M) (NoMemory × Ask × Hand M)) →
+      IfOk r (λ x. bare_answer x.0 ≡ served_answer before.site before.history t (bare_ask k)) →
+      IfOk r (λ x. after ≡ kept_after before t (bare_ask k) (bare_answer x.0)) →
+      IfOk r (λ x. HandBack told (is_accepted (bare_answer x.0)) before.history after.history (bare_ask k) (bare_answer x.0) in_hand x.1) →
+      IfErr r (λ e. (e.1 ≡ k) × (e.2 ≡ in_hand)) → OnErr r (after ≡ before) → Returns told before.site before.history (call.Ask t k in_hand) (back.Ask r) after.history
+  asked before after t k in_hand (Ok (a, out)) answered kept handed again same = record {
+    answered = answered ∙ served_answer-bare before.site before.history t k;
+    left = ap (λ (x : Kept). x.history) kept ∙ entry_or_none (is_accepted (bare_answer a)) before t (bare_ask k) (bare_answer a);
+    handed = back-bare (is_accepted (bare_answer a)) before.history after.history k (bare_answer a) in_hand out handed;
+  }
+  asked before after t k in_hand (Err (none, k', out)) answered kept handed again same = (ap (λ (x : Kept). x.history) same, again.0, again.1)

@@ -1,8 +1,0 @@
-use Rattle.std.proofs.Common.{◌≡◌}
-use Rattle.cta_model.specs.Newest.{history_in}
-use Rattle.cta_model.specs.Tapes as tapes
-use Rattle.archive.specs.Scans.{some_place_passes}
-use Rattle.archive.proofs.localities.has_disabled.Given as goal
-
-abbrev pub invariant-loop-copy : goal.invariant-loop-copy
-invariant-loop-copy l = l.found ≡ some_place_passes tapes.is_disabled l.site (history_in l.entries) l.file l.copy

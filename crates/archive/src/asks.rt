@@ -1,0 +1,180 @@
+// Asks.
+ghost use Rattle.std.specs.Prelude.{◌≡◌, ◌≤◌, IfOk, IfErr, OnErr, true};
+ghost use Rattle.cta_model.specs.declared.asks.Ask.TheVariants as ask;
+ghost use Rattle.cta_model.specs.declared.asks.Direction.TheVariants as direction;
+ghost use Rattle.cta_model.specs.Answers.{answer_of, is_accepted};
+ghost use Rattle.cta_model.specs.Bare.{bare_answer, bare_ask};
+ghost use Rattle.cta_model.specs.Hands.{HandBack, HandIn};
+ghost use Rattle.cta_model.specs.Kept.{kept_after};
+ghost use Rattle.cta_model.specs.Legal.{IsEndFault, IsFit, IsMount, IsMountOf, greatest_moment};
+ghost use Rattle.cta_model.specs.Mounts.{mount_of};
+ghost use Rattle.served.specs.Served.{is_built, served_answer};
+
+use crate::archive::Archive;
+use blob::Sum256;
+use core_drive::{claim, end, flushed, next, recalled};
+use core_files::{KeptState, delete, put};
+use core_stage::{cancel, drop_request, release, stage};
+use cta_model::{Answer, Ask, Fault, Hand, Job, NoMemory, Refusal, Told, Who};
+use cta_site::Text;
+
+// Whether an ask is served.
+fn is_built(ask: &Ask) -> bool
+    ensures { result ≡ is_built (bare_ask ask.now) }
+{
+    match ask {
+        Ask::Put { .. } => true,
+        Ask::Delete { .. } => true,
+        Ask::Stage { .. } => true,
+        Ask::Cancel { .. } => true,
+        Ask::DropStage { .. } => true,
+        Ask::Release { .. } => true,
+        Ask::Next { .. } => true,
+        Ask::Claim { .. } => true,
+        Ask::Flushed { .. } => true,
+        Ask::Recalled { .. } => true,
+        Ask::End { .. } => true,
+        _ => false,
+    }
+}
+
+// A Put with its hand, which is its content.
+fn put_with<M: Told + Drop>(
+    state: &mut KeptState<M>,
+    at: u64,
+    who: Who,
+    path: Text,
+    sum: Sum256,
+    hand: Hand<M>,
+) -> Result<(Answer, Hand<M>), (NoMemory, Ask, Hand<M>)>
+    requires at { at ≤ greatest_moment }
+    requires hand { HandIn M.told state.old.history (Ask.Put who path sum) hand }
+    ensures answer { IfOk result (λ r. bare_answer r.0 ≡ answer_of state.old.site state.old.history at (Ask.Put who path sum)) }
+    ensures kept { IfOk result (λ r. state.new ≡ kept_after state.old at (Ask.Put who path sum) (bare_answer r.0)) }
+    ensures hand { IfOk result (λ r. HandBack M.told (is_accepted (bare_answer r.0)) state.old.history state.new.history (Ask.Put who path sum) (bare_answer r.0) hand r.1) }
+    ensures back { IfErr result (λ e. (e.1 ≡ Ask.Put who path sum) × (e.2 ≡ hand)) }
+    ensures same { OnErr result (state.new ≡ state.old) }
+{
+    match hand {
+        Hand::Blob(blob) => put(state, at, who, path, blob),
+        _ => unreachable!(),
+    }
+}
+
+// A Recalled with its hand, which is the content of its file.
+fn recalled_with<M: Told + Drop>(
+    state: &mut KeptState<M>,
+    at: u64,
+    mount: u32,
+    job: Job,
+    hand: Hand<M>,
+) -> Result<(Answer, Hand<M>), (NoMemory, Ask, Hand<M>)>
+    requires at { at ≤ greatest_moment }
+    requires fit { IsMountOf direction.Retrieve (mount_of state.old.history mount) }
+    requires hand { HandIn M.told state.old.history (Ask.Recalled mount job) hand }
+    ensures answer { IfOk result (λ r. bare_answer r.0 ≡ answer_of state.old.site state.old.history at (Ask.Recalled mount job)) }
+    ensures kept { IfOk result (λ r. state.new ≡ kept_after state.old at (Ask.Recalled mount job) (bare_answer r.0)) }
+    ensures hand { IfOk result (λ r. HandBack M.told (is_accepted (bare_answer r.0)) state.old.history state.new.history (Ask.Recalled mount job) (bare_answer r.0) hand r.1) }
+    ensures back { IfErr result (λ e. (e.1 ≡ Ask.Recalled mount job) × (e.2 ≡ hand)) }
+    ensures same { OnErr result (state.new ≡ state.old) }
+{
+    match hand {
+        Hand::Blob(blob) => recalled(state, at, mount, job, blob),
+        _ => unreachable!(),
+    }
+}
+
+// An End with its hand, which is the medium of its mount.
+fn end_with<M: Told + Drop>(
+    state: &mut KeptState<M>,
+    at: u64,
+    mount: u32,
+    fault: Option<Fault>,
+    hand: Hand<M>,
+) -> Result<(Answer, Hand<M>), (NoMemory, Ask, Hand<M>)>
+    requires at { at ≤ greatest_moment }
+    requires fit { IsMount (mount_of state.old.history mount) }
+    requires fault { IsEndFault fault }
+    requires hand { HandIn M.told state.old.history (Ask.End mount fault) hand }
+    ensures answer { IfOk result (λ r. bare_answer r.0 ≡ answer_of state.old.site state.old.history at (Ask.End mount fault)) }
+    ensures kept { IfOk result (λ r. state.new ≡ kept_after state.old at (Ask.End mount fault) (bare_answer r.0)) }
+    ensures hand { IfOk result (λ r. HandBack M.told (is_accepted (bare_answer r.0)) state.old.history state.new.history (Ask.End mount fault) (bare_answer r.0) hand r.1) }
+    ensures back { IfErr result (λ e. (e.1 ≡ Ask.End mount fault) × (e.2 ≡ hand)) }
+    ensures same { OnErr result (state.new ≡ state.old) }
+{
+    match hand {
+        Hand::Medium(medium) => end(state, at, mount, fault, medium),
+        _ => unreachable!(),
+    }
+}
+
+// An ask that is served.
+fn served<M: Told + Drop>(
+    state: &mut KeptState<M>,
+    at: u64,
+    ask: Ask,
+    hand: Hand<M>,
+) -> Result<(Answer, Hand<M>), (NoMemory, Ask, Hand<M>)>
+    requires at { at ≤ greatest_moment }
+    requires built { is_built (bare_ask ask) ≡ true }
+    requires fit { IsFit state.old.site state.old.history ask }
+    requires hand { HandIn M.told state.old.history ask hand }
+    ensures answer { IfOk result (λ r. bare_answer r.0 ≡ answer_of state.old.site state.old.history at (bare_ask ask)) }
+    ensures kept { IfOk result (λ r. state.new ≡ kept_after state.old at (bare_ask ask) (bare_answer r.0)) }
+    ensures hand { IfOk result (λ r. HandBack M.told (is_accepted (bare_answer r.0)) state.old.history state.new.history (bare_ask ask) (bare_answer r.0) hand r.1) }
+    ensures back { IfErr result (λ e. (e.1 ≡ ask) × (e.2 ≡ hand)) }
+    ensures same { OnErr result (state.new ≡ state.old) }
+{
+    match ask {
+        Ask::Put { who, path, sum } => put_with(state, at, who, path, sum, hand),
+        Ask::Delete { who, path } => delete(state, at, who, path),
+        Ask::Stage { who, files } => stage(state, at, who, files),
+        Ask::Cancel { who, id, paths } => cancel(state, at, who, id, paths),
+        Ask::DropStage { who, id } => drop_request(state, at, who, id),
+        Ask::Release { who, id, paths } => release(state, at, who, id, paths),
+        Ask::Next { drive } => next(state, at, drive),
+        Ask::Claim { mount } => claim(state, at, mount),
+        Ask::Flushed { mount, items } => flushed(state, at, mount, items),
+        Ask::Recalled { mount, job } => recalled_with(state, at, mount, job, hand),
+        Ask::End { mount, fault } => end_with(state, at, mount, fault, hand),
+        _ => unreachable!(),
+    }
+}
+
+impl<M: Told + Drop> Archive<M> {
+    /// Whether an ask is served so far, in constant time.
+    pub fn serves(&self, ask: &Ask) -> bool
+        ensures { result ≡ is_built (bare_ask ask.now) }
+    {
+        is_built(ask)
+    }
+
+    /// Answers an ask at this moment, in seconds since 1970, or at the last entry's where that is later, with the hand that belongs to it.
+    ///
+    /// The answer is the sequential archive's on the history, where the ask is one that is served, and otherwise the refusal `NotBuilt`.
+    /// An accepted ask appends its one entry, and the hand of its answer comes out. Any other changes nothing, and its hand comes back.
+    /// After NoMemory nothing has changed, and the ask and the hand come back.
+    ///
+    /// A session asks only what a session may: a Next of a drive of the site, and all else of a mount of the history. Its cost is that of
+    /// the call of the core that serves the ask; none is linear in the archive.
+    pub fn ask(
+        &mut self,
+        at: u64,
+        ask: Ask,
+        hand: Hand<M>,
+    ) -> Result<(Answer, Hand<M>), (NoMemory, Ask, Hand<M>)>
+        requires at { at ≤ greatest_moment }
+        requires fit { IsFit self.old.site self.old.history ask }
+        requires hand { HandIn M.told self.old.history ask hand }
+        ensures answer { IfOk result (λ r. bare_answer r.0 ≡ served_answer self.old.site self.old.history at (bare_ask ask)) }
+        ensures kept { IfOk result (λ r. self.new ≡ kept_after self.old at (bare_ask ask) (bare_answer r.0)) }
+        ensures hand { IfOk result (λ r. HandBack M.told (is_accepted (bare_answer r.0)) self.old.history self.new.history (bare_ask ask) (bare_answer r.0) hand r.1) }
+        ensures back { IfErr result (λ e. (e.1 ≡ ask) × (e.2 ≡ hand)) }
+        ensures same { OnErr result (self.new ≡ self.old) }
+    {
+        if !is_built(&ask) {
+            return Ok((Answer::Refused(Refusal::NotBuilt), hand));
+        }
+        served(&mut self.state, at, ask, hand)
+    }
+}

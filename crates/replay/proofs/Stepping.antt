@@ -1,0 +1,125 @@
+-- A step of a desk, by that of its session.
+use Rattle.std.proofs.Common.{◌≡◌, ℕ, zero, suc, ◌<◌, Bool, true, false, List, [], ◌∷◌, length, refl, sym, ap, ◌∙◌, subst}
+use Rattle.std.specs.Prelude.{Option, Some, None, Result, Ok, Err, is_ok, map, slice_get, slice_index_or, slice_set}
+use Rattle.std.proofs.lemmas.Option.{same_Some, slice_get-get_or}
+use Rattle.blob.specs.Records.{TapeRecords}
+use Rattle.cta_site.specs.declared.site.Site.{Site}
+use Rattle.cta_model.specs.declared.asks.Ask.{Ask}
+use Rattle.cta_model.specs.History.{History}
+use Rattle.cta_model.specs.Kept.{Kept}
+use Rattle.cta_model.specs.Legal.{IsLegal}
+use Rattle.media.specs.Drives.{DriveView}
+use Rattle.drive_session.specs.declared.reports.Done.{Done}
+use Rattle.drive_session.specs.declared.reports.StepLine.{StepLine}
+use Rattle.drive_session.specs.declared.session.Memo.{Memo}
+use Rattle.drive_session.specs.Table.{Row, phase_of}
+use Rattle.session_laws.specs.Laws.{SessionStays}
+use Rattle.served.specs.Served.{served_answer}
+use Rattle.replay.specs.Desk.{AreManned, DeskView, IsManned, IsStepped, IsTurned, desk_of, drive_states}
+use Rattle.replay.specs.Output.{run_behind}
+use Rattle.replay.specs.Run.{Stepped}
+use Rattle.replay.specs.Steps.{DriveState, HasAnsweredSo, HasServedRow, HasUnservedRow, RunState, answer_to, behind_row, kept_by, phase_behind, row_at, row_in}
+use Rattle.replay.specs.declared.desk.Halt.{Halt}
+use Rattle.replay.specs.declared.desk.Halt.TheVariants as halt
+use Rattle.replay.proofs.Manned.{states_at, states_put, step_keeps}
+use Rattle.replay.proofs.Running.{kept_after-site}
+
+-- the element of an index that is there
+pub indexed : {A : Type 0} (xs : List A) (k : ℕ) (x : A) → k < length xs → x ≡ slice_index_or xs k x → slice_get xs k ≡ Some x
+indexed xs k x within is = slice_get-get_or xs k x within ∙ ap Some (sym is)
+
+pub length-map : {A B : Type 0} (f : A → B) (xs : List A) → length (map f xs) ≡ length xs
+length-map f [] = refl
+length-map f (x ∷ xs) = ap suc (length-map f xs)
+
+-- what is seen of the element of an index
+pub seen_at : {A B : Type 0} (f : A → B) (xs : List A) (k : ℕ) (x : A) → slice_get xs k ≡ Some x → slice_get (map f xs) k ≡ Some (f x)
+seen_at f [] k x is = absurd (let no : None ≡ Some x = is in cc)
+seen_at f (y ∷ xs) zero x is = ap (λ z. Some (f z)) (same_Some y x is)
+seen_at f (y ∷ xs) (suc k) x is = seen_at f xs k x is
+
+kept_by-site : (k : Kept) (t : ℕ) (o : Option Ask) → (kept_by k t o).site ≡ k.site
+kept_by-site k t None = refl
+kept_by-site k t (Some a) = kept_after-site k t a (served_answer k.site k.history t a)
+
+pub same_run : (a a' : Site) (h h' : History) (ds ds' : List DriveState) → a ≡ a' → h ≡ h' → ds ≡ ds'
+    → ◌≡◌ {A = RunState} (record { site = a; history = h; drives = ds }) (record { site = a'; history = h'; drives = ds' })
+same_run a a' h h' ds ds' e f g = rw (e, f, g) refl
+
+module _ {M : Type 0} (told : M → Option TapeRecords) (stays : SessionStays told) (kept : Kept) (ms : List (Memo M)) (vs : List DriveView) (ready : Bool) (desk : DeskView)
+    (is : desk_of kept ms vs ready ≡ desk) (keeps : ready ≡ true → AreManned told kept.site kept.history ms vs) (on : desk.ready ≡ true) where
+  pub manned : AreManned told kept.site kept.history ms vs
+  manned = keeps (ap (λ (k : DeskView). k.ready) is ∙ on)
+
+  module _ (d : ℕ) (within : d < length desk.run.site.drives.items) where
+    known : d < length kept.site.drives.items
+    known = subst (λ (k : DeskView). d < length k.run.site.drives.items) (sym is) within
+
+    pub in_sessions : d < length ms
+    in_sessions = subst (λ n. d < n) (sym manned.sessions) known
+
+    pub in_drives : d < length vs
+    in_drives = subst (λ n. d < n) (sym manned.drives) known
+
+    module _ (m : Memo M) (v : DriveView) (at : slice_get ms d ≡ Some m) (seen : slice_get vs d ≡ Some v) where
+      pub here : IsManned told kept.site kept.history d m v
+      here = manned.each d m v at seen
+
+      abbrev run : RunState
+      run = record { site = kept.site; history = kept.history; drives = drive_states ms vs }
+
+      state_is : slice_get run.drives d ≡ Some (record { phase = phase_of m.state; seen = v })
+      state_is = states_at ms vs d m v at seen
+
+      module _ (now : Kept) (m' : Memo M) (v' : DriveView) (t : ℕ) where
+        abbrev next : RunState
+        next = record { site = now.site; history = now.history; drives = drive_states (slice_set ms d m') (slice_set vs d v') }
+
+        -- each drive stays manned
+        pub still_manned : IsLegal now.site now.history → (o : Result StepLine Halt) → IsTurned told o kept now m m' v v' d t → is_ok o ≡ true → AreManned told now.site now.history (slice_set ms d m') (slice_set vs d v')
+        still_manned legal (Ok l) y ok =
+            let site : now.site ≡ kept.site = ap (λ (k : Kept). k.site) y.keeps ∙ kept_by-site kept t y.row.ask in
+            let kept_legal : IsLegal kept.site now.history = subst (λ s. IsLegal s now.history) site legal in
+            let kept_here : IsManned told kept.site now.history d m' v' = subst (λ s. IsManned told s now.history d m' v') site y.manned in
+            let all : AreManned told kept.site now.history (slice_set ms d m') (slice_set vs d v') =
+            step_keeps told stays kept.site kept now t d y.row.ask ms vs m' v' y.keeps site kept_legal y.about manned in_sessions in_drives kept_here in
+            subst (λ s. AreManned told s now.history (slice_set ms d m') (slice_set vs d v')) (sym site) all
+        still_manned legal (Err why) y ok = absurd (let no : false ≡ true = ok in cc)
+
+        -- the run is that behind the step
+        run_is : (heard : Option Done) (r : Row) → row_at run d heard ≡ Some r → now ≡ kept_by kept t r.ask → phase_of m'.state ≡ phase_behind r (answer_to kept t r) → next ≡ run_behind run (Stepped d t heard v')
+        run_is heard r at_row keeps_so phase =
+            let site : now.site ≡ kept.site = ap (λ (k : Kept). k.site) keeps_so ∙ kept_by-site kept t r.ask in
+            let drives : drive_states (slice_set ms d m') (slice_set vs d v') ≡ slice_set run.drives d (record { phase = phase_behind r (answer_to kept t r); seen = v' }) =
+            states_put ms vs d m' v' ∙ ap (λ p. slice_set run.drives d (record { phase = p; seen = v' })) phase in
+            same_run now.site kept.site now.history (kept_by kept t r.ask).history _ _ site (ap (λ (k : Kept). k.history) keeps_so) drives ∙ ap (behind_row run d t v') (sym at_row)
+
+        stepped_on : (o : Result StepLine Halt) → IsTurned told o kept now m m' v v' d t → IsStepped o run next d t
+        stepped_on (Ok l) y =
+            let at_row : row_at run d y.done ≡ Some y.row = ap (row_in d y.done) state_is ∙ y.at in
+            record {
+              done = y.done;
+              seen = v';
+              row = y.row;
+              is = record {
+                device = subst (λ s. HasAnsweredSo s y.done v') (sym state_is) y.heard;
+                row = subst (HasServedRow kept t) (sym at_row) y.served;
+              };
+              at = at_row;
+              told = y.line;
+              keeps = run_is y.done y.row at_row y.keeps y.phase;
+            }
+        stepped_on (Err halt.Unserved) y = (
+          y.0,
+          (
+            v',
+            record {
+              device = subst (λ s. HasAnsweredSo s y.0 v') (sym state_is) y.1.0;
+              row = subst (HasUnservedRow kept) (sym (ap (row_in d y.0) state_is)) y.1.1;
+            },
+          ),
+        )
+        stepped_on (Err halt.Wanting) y = tt
+
+        pub stepped : (o : Result StepLine Halt) → IsTurned told o kept now m m' v v' d t → IsStepped o desk.run next d t
+        stepped o y = subst (λ (k : DeskView). IsStepped o k.run next d t) is (stepped_on o y)

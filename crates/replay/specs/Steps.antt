@@ -1,0 +1,192 @@
+-- Steps of drives: what each asks of the archive, what is kept behind it, and its line.
+use Rattle.std.specs.Prelude.{◌≡◌, ◌≢◌, ℕ, List, [], ◌++◌, map, codes, decimal, slice_get, slice_set, Option, Some, None, option_map, Bool, true, false}
+use Rattle.cta_site.specs.declared.site.Site.{Site}
+use Rattle.cta_site.specs.Lookups.{vid_of}
+use Rattle.cta_model.specs.declared.answers.Answer.{Answer}
+use Rattle.cta_model.specs.declared.answers.Answer.TheVariants as answer
+use Rattle.cta_model.specs.declared.answers.Refusal.TheVariants as refusal
+use Rattle.cta_model.specs.declared.asks.Ask.{Ask}
+use Rattle.cta_model.specs.declared.asks.Direction.{Direction}
+use Rattle.cta_model.specs.declared.asks.Direction.TheVariants as direction
+use Rattle.cta_model.specs.History.{History}
+use Rattle.cta_model.specs.Kept.{Kept, kept_after}
+use Rattle.cta_model.specs.Legal.{IsFit}
+use Rattle.media.specs.Drives.{DriveView}
+use Rattle.drive_session.specs.declared.reports.Done.{Done}
+use Rattle.drive_session.specs.declared.reports.ReadEnd.{ReadEnd}
+use Rattle.drive_session.specs.declared.reports.ReadEnd.TheVariants as end
+use Rattle.drive_session.specs.declared.reports.StepLine.{StepLine}
+use Rattle.drive_session.specs.declared.reports.StepLine.TheVariants as line
+use Rattle.drive_session.specs.Answers.{is_memory, said}
+use Rattle.drive_session.specs.Steps.{HasDone}
+use Rattle.drive_session.specs.Table.{Free, Phase, Row, line_by, phase_after, row_of}
+use Rattle.served.specs.Served.{is_built, served_answer}
+use Rattle.replay.specs.Line.{drive_name}
+
+-- ---- what a run has come to
+
+-- where a drive stands: the phase of its session, and how the drive is seen
+pub record DriveState : Type 0 where
+  pub phase : Phase
+  pub seen : DriveView
+
+-- a site, the history that an archive of it has kept, and where each of its drives stands, by number
+pub record RunState : Type 0 where
+  pub site : Site
+  pub history : History
+  pub drives : List DriveState
+
+-- what the archive has kept
+abbrev pub kept_in : RunState → Kept
+kept_in s = record { site = s.site; history = s.history }
+
+-- the archive has kept this since
+abbrev pub with_kept : RunState → Kept → RunState
+with_kept s kept = record s { history = kept.history }
+
+-- nothing has happened yet: no history, and each drive, seen so, is free
+abbrev pub begun_with : Site → List DriveView → RunState
+begun_with site seen = record { site = site; history = []; drives = map (λ v. record { phase = Free; seen = v }) seen }
+
+-- ---- a step
+
+-- the row of a drive's table for what the device answered, none where there is no such drive or row
+abbrev pub row_in : ℕ → Option Done → Option DriveState → Option Row
+row_in drive _ None = None
+row_in drive done (Some d) = row_of drive d.phase done
+
+-- the row of a step in a run
+abbrev pub row_at : RunState → ℕ → Option Done → Option Row
+row_at s drive done = row_in drive done (slice_get s.drives drive)
+
+-- what a row asks is answered as far as asks are served
+abbrev pub answer_to : Kept → ℕ → Row → Option Answer
+answer_to kept moment r = option_map (served_answer kept.site kept.history moment) r.ask
+
+-- the line of a row, behind the answer where it asks
+abbrev pub line_behind : Row → Option Answer → StepLine
+line_behind r None = said r.asked
+line_behind r (Some a) = line_by r.asked r.phase a
+
+-- the phase behind a row
+abbrev pub phase_behind : Row → Option Answer → Phase
+phase_behind r None = r.phase
+phase_behind r (Some a) = phase_after r.asked r.phase a
+
+-- what is kept behind what a row asks
+abbrev pub kept_by : Kept → ℕ → Option Ask → Kept
+kept_by kept moment None = kept
+kept_by kept moment (Some k) = kept_after kept moment k (served_answer kept.site kept.history moment k)
+
+-- the run behind a step with this row, where the drive is seen so
+abbrev pub behind_row : RunState → ℕ → ℕ → DriveView → Option Row → RunState
+behind_row s drive moment seen None = s
+behind_row s drive moment seen (Some r) =
+    record s {
+      history = (kept_by (kept_in s) moment r.ask).history;
+      drives = slice_set s.drives drive (record { phase = phase_behind r (answer_to (kept_in s) moment r); seen = seen });
+    }
+
+-- ---- which steps are carried out
+
+-- what a row asks is served
+abbrev pub IsAskServed : Option Ask → Type 0
+IsAskServed None = Unit {0}
+IsAskServed (Some k) = is_built k ≡ true
+
+-- what a row asks is what a session may ask
+abbrev pub IsAskFit : Site → History → Option Ask → Type 0
+IsAskFit site h None = Unit {0}
+IsAskFit site h (Some k) = IsFit site h k
+
+-- what a row asks about is known
+abbrev pub IsAnswerKnown : Option Answer → Type 0
+IsAnswerKnown None = Unit {0}
+IsAnswerKnown (Some a) = a ≢ answer.Refused refusal.Unknown
+
+-- a row that is carried out: its ask is served, fit and not answered Unknown, and its line tells of no want of memory
+pub record IsServedRow (kept : Kept) (moment : ℕ) (r : Row) : Type 0 where
+  pub served : IsAskServed r.ask
+  pub fit : IsAskFit kept.site kept.history r.ask
+  pub known : IsAnswerKnown (answer_to kept moment r)
+  pub told : is_memory (line_behind r (answer_to kept moment r)) ≡ false
+
+-- there is a row, and it is carried out
+abbrev pub HasServedRow : Kept → ℕ → Option Row → Type 0
+HasServedRow kept moment None = ⊥
+HasServedRow kept moment (Some r) = IsServedRow kept moment r
+
+-- something is asked that is fit and not served
+abbrev pub HasUnservedAsk : Kept → Option Ask → Type 0
+HasUnservedAsk kept None = ⊥
+HasUnservedAsk kept (Some k) = (is_built k ≡ false) × IsFit kept.site kept.history k
+
+-- there is a row, and it asks so
+abbrev pub HasUnservedRow : Kept → Option Row → Type 0
+HasUnservedRow kept None = ⊥
+HasUnservedRow kept (Some r) = HasUnservedAsk kept r.ask
+
+-- the device of a drive has answered so in one call, or made none
+abbrev pub HasAnsweredSo : Option DriveState → Option Done → DriveView → Type 0
+HasAnsweredSo None _ seen = ⊥
+HasAnsweredSo (Some d) done seen = HasDone d.seen seen done
+
+-- a step that is carried out: its device has answered so, and it has a row that is carried out
+pub record IsStepOf (s : RunState) (drive moment : ℕ) (done : Option Done) (seen : DriveView) : Type 0 where
+  pub device : HasAnsweredSo (slice_get s.drives drive) done seen
+  pub row : HasServedRow (kept_in s) moment (row_at s drive done)
+
+-- a step whose ask is not served: its device has answered so, and the archive is not asked
+pub record IsUnservedStep (s : RunState) (drive : ℕ) (done : Option Done) (seen : DriveView) : Type 0 where
+  pub device : HasAnsweredSo (slice_get s.drives drive) done seen
+  pub row : HasUnservedRow (kept_in s) (row_at s drive done)
+
+-- the ask of a step, where it has a row, is one that a session may make
+abbrev pub IsRowFit : Kept → Option Row → Type 0
+IsRowFit kept None = Unit {0}
+IsRowFit kept (Some r) = IsAskFit kept.site kept.history r.ask
+
+-- ---- lines
+
+-- whether a call succeeded
+abbrev pub how : Bool → List ℕ
+how true = codes "ok"
+how false = codes "failed"
+
+-- which way a mount goes
+abbrev pub way_text : Direction → List ℕ
+way_text direction.Archive = codes "archive"
+way_text direction.Retrieve = codes "retrieve"
+
+-- how a read ended
+abbrev pub end_text : ReadEnd → List ℕ
+end_text end.Done = codes "done"
+end_text end.Stale = codes "stale"
+end_text end.Failed = codes "failed"
+end_text end.Mismatch = codes "mismatch"
+
+-- the words of a line
+abbrev pub line_words : Site → StepLine → List ℕ
+line_words site (line.Mount way v) = codes "mount " ++ way_text way ++ codes " " ++ vid_of site v
+line_words site line.Idle = codes "idle"
+line_words site line.Down = codes "down"
+line_words site line.Busy = codes "busy"
+line_words site line.Full = codes "full"
+line_words site (line.Load ok) = codes "load " ++ how ok
+line_words site (line.Claim n) = codes "claim " ++ decimal n
+line_words site line.ClaimFull = codes "claim full"
+line_words site (line.Write s ok) = codes "write " ++ decimal s ++ codes " " ++ how ok
+line_words site (line.Flush done stale) = codes "flush " ++ decimal done ++ codes " " ++ decimal stale
+line_words site line.FlushFailed = codes "flush failed"
+line_words site (line.Read s e) = codes "read " ++ decimal s ++ codes " " ++ end_text e
+line_words site (line.Unload ok) = codes "unload " ++ how ok
+line_words site line.Memory = codes "memory"
+
+-- the line that is written for a step
+unfoldable pub step_line : Site → ℕ → StepLine → List ℕ
+step_line site drive l = codes "step " ++ drive_name site drive ++ codes " " ++ line_words site l ++ codes "\n"
+
+-- what is written for a step with this row; nothing where it has none
+abbrev pub written_by : RunState → ℕ → ℕ → Option Row → List ℕ
+written_by s drive moment None = []
+written_by s drive moment (Some r) = step_line s.site drive (line_behind r (answer_to (kept_in s) moment r))

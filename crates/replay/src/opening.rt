@@ -1,0 +1,43 @@
+// An archive that has kept nothing yet, with the media that a bench makes.
+ghost use Rattle.std.specs.Prelude.{◌≡◌, IfOk};
+ghost use Rattle.archive.specs.Kept.{AreFirstMedia};
+ghost use Rattle.replay.specs.Output.{fresh};
+
+use archive::Archive;
+use cta_model::NoMemory;
+use cta_site::ValidSite;
+use media::{Bench, TapeDrive};
+use std::alloc::Global;
+use std::hash::RandomState;
+
+// A medium for each tape of a site, in order of their numbers, none with a record where it tells them.
+fn media_of<D: TapeDrive, B: Bench<D>>(
+    alloc: Global,
+    site: &ValidSite,
+    bench: &mut B,
+) -> Result<Vec<D::Medium>, NoMemory>
+    ensures media { IfOk result (λ media. AreFirstMedia D.Medium.told site.now media.items) }
+    ensures tells { B.tells bench.new ≡ B.tells bench.old }
+{
+    site.keeps_rules();
+    let mut media = Vec::new(alloc);
+    for tape in 0..site.tapes().len() {
+        let medium = bench.medium(site, tape as u32)?;
+        media.push(medium)?;
+    }
+    Ok(media)
+}
+
+// An archive of a site that has kept nothing yet. Paths are hashed with these keys. NoMemory lets the site go.
+pub(crate) fn open_archive<D: TapeDrive, B: Bench<D>>(
+    alloc: Global,
+    site: ValidSite,
+    bench: &mut B,
+    keys: RandomState,
+) -> Result<Archive<D::Medium>, NoMemory>
+    ensures archive { IfOk result (λ archive. archive ≡ fresh site) }
+    ensures tells { B.tells bench.new ≡ B.tells bench.old }
+{
+    let media = media_of(alloc, &site, bench)?;
+    Archive::new(alloc, site, media, keys)
+}
