@@ -1,0 +1,110 @@
+-- Jobs that are put back into queues, one by one.
+use Rattle.std.proofs.Common.{◌≡◌, ◌∙◌, ◌+◌, ◌-◌, ◌*◌, ◌≤◌, ◌<◌, ◌^◌, ℕ, List, [], ◌∷◌, Bool, true, false, ◌||◌, refl, sym, ap, subst, arith, length, take, drop}
+use Rattle.std.specs.Prelude.{Option, Some, None, ◌==◌, if◌then◌else◌, filter, slice_index_or}
+use Rattle.std.specs.List.{AllByRecursion}
+use Rattle.std.proofs.lemmas.List.Sums.{sum_by-cons}
+use Rattle.cta_site.specs.declared.site.Site.{Site}
+use Rattle.cta_model.specs.declared.asks.Job.{Job}
+use Rattle.cta_model.specs.History.{History}
+use Rattle.cta_model.specs.Mounts.{has_job, same_job}
+use Rattle.cta_laws.proofs.JobLists.{filter_le}
+use Rattle.job_book.specs.Live.{lives}
+use Rattle.job_queues.specs.Waiting.{bytes_of, jobs_of}
+use Rattle.part_values.specs.declared.jobs.Line.{Line}
+use Rattle.part_values.specs.JobBook.{Book}
+use Rattle.part_values.specs.Order.{goes_before}
+use Rattle.part_values.specs.Queues.{Lines, add_at, insert_line}
+use Rattle.fail_calls.specs.Failing.{CanQueue, add_by, jobs_live}
+use Rattle.fail_calls.proofs.FailedLists.{rest_is}
+
+-- ---- a line among others
+
+bytes_insert : (l : Line) (ls : List Line) → bytes_of (insert_line l ls) ≡ l.len + bytes_of ls
+bytes_insert l [] = sum_by-cons (λ (x : Line). x.len) l []
+bytes_insert l (k ∷ ks) = elim (goes_before l.job k.job) as (λ b. bytes_of (if b then l ∷ k ∷ ks else k ∷ insert_line l ks) ≡ l.len + bytes_of (k ∷ ks)) [
+  | true ↦ sum_by-cons (λ (x : Line). x.len) l (k ∷ ks)
+  | false ↦
+      (let a : bytes_of (k ∷ insert_line l ks) ≡ k.len + bytes_of (insert_line l ks) = sum_by-cons (λ (x : Line). x.len) k (insert_line l ks) in
+      let b : bytes_of (k ∷ ks) ≡ k.len + bytes_of ks = sum_by-cons (λ (x : Line). x.len) k ks in
+      omega (arith, bytes_insert l ks))
+]
+
+bytes_added : (key : Option ℕ) (l : Line) (lines : Lines) (k : ℕ) → bytes_of (add_at key l lines k) ≤ bytes_of (lines k) + l.len
+bytes_added None l lines k = omega arith
+bytes_added (Some q) l lines k =
+    elim (k == q) as (λ b. bytes_of (if b then insert_line l (lines k) else lines k) ≤ bytes_of (lines k) + l.len) [ true ↦ omega (arith, bytes_insert l (lines k)) | false ↦ omega arith ]
+
+or_swap : (a b c : Bool) → (a || (b || c)) ≡ (b || (a || c))
+or_swap true true c = refl
+or_swap true false c = refl
+or_swap false b c = refl
+
+has_insert : (j : Job) (l : Line) (ls : List Line) → has_job j (jobs_of (insert_line l ls)) ≡ (same_job j l.job || has_job j (jobs_of ls))
+has_insert j l [] = refl
+has_insert j l (k ∷ ks) =
+    elim (goes_before l.job k.job) as (λ b. has_job j (jobs_of (if b then l ∷ k ∷ ks else k ∷ insert_line l ks)) ≡ (same_job j l.job || (same_job j k.job || has_job j (jobs_of ks))))
+    [ true ↦ refl | false ↦ ap (λ (b : Bool). same_job j k.job || b) (has_insert j l ks) ∙ or_swap (same_job j k.job) (same_job j l.job) (has_job j (jobs_of ks)) ]
+
+lacks_added : (j : Job) (key : Option ℕ) (l : Line) (lines : Lines) (k : ℕ) → same_job j l.job ≡ false → has_job j (jobs_of (lines k)) ≡ false → has_job j (jobs_of (add_at key l lines k)) ≡ false
+lacks_added j None l lines k other none = none
+lacks_added j (Some q) l lines k other none =
+    elim (k == q) as (λ b. has_job j (jobs_of (if b then insert_line l (lines k) else lines k)) ≡ false) [ true ↦ has_insert j l (lines k) ∙ rw (other, none) refl | false ↦ none ]
+
+-- ---- several jobs
+
+parts_none : (a b : Bool) → (a || b) ≡ false → (a ≡ false) × (b ≡ false)
+parts_none true b e = absurd (cc)
+parts_none false b e = (refl, e)
+
+-- a job that is not among them is not in a queue to which they are added
+pub lacks_by : (key : Job → Option ℕ) (line : Job → Line) → ((i : Job) → (line i).job ≡ i) → (j : Job) (js : List Job) (lines : Lines) (k : ℕ) → has_job j js ≡ false → has_job j (jobs_of (lines k)) ≡ false → has_job j (jobs_of (add_by key line js lines k)) ≡ false
+lacks_by key line own j [] lines k none lacks = lacks
+lacks_by key line own j (i ∷ js) lines k none lacks =
+    let parts = parts_none (same_job j i) (has_job j js) none in
+    lacks_added j (key i) (line i) (add_by key line js lines) k (ap (same_job j) (own i) ∙ parts.0) (lacks_by key line own j js lines k parts.1 lacks)
+
+-- each adds at most so many bytes to a queue
+pub bytes_by : (key : Job → Option ℕ) (line : Job → Line) → ((i : Job) → (line i).len ≤ 2147483648) → (js : List Job) (lines : Lines) (k : ℕ) → bytes_of (add_by key line js lines k) ≤ bytes_of (lines k) + 2147483648 * length js
+bytes_by key line small [] lines k = omega arith
+bytes_by key line small (i ∷ js) lines k =
+    let rest = bytes_by key line small js lines k in
+    let one = bytes_added (key i) (line i) (add_by key line js lines) k in
+    let len = small i in
+    omega (arith, rest, one, len)
+
+-- ---- those that are live
+
+pub fewer : (j : Job) (test : Job → Bool) (js : List Job) → has_job j js ≡ false → has_job j (filter test js) ≡ false
+fewer j test [] none = refl
+fewer j test (i ∷ js) none = by (test i) (parts_none (same_job j i) (has_job j js) none) (fewer j test js (parts_none (same_job j i) (has_job j js) none).1)
+  where
+    by : (t : Bool) → (same_job j i ≡ false) × (has_job j js ≡ false) → has_job j (filter test js) ≡ false → has_job j (if t then i ∷ filter test js else filter test js) ≡ false
+    by true parts rest = rw (parts.0, rest) refl
+    by false parts rest = rest
+
+-- the first job is not in the queues to which the others are added
+pub first_lacks : (site : Site) (h : History) (b : Book) (key : Job → Option ℕ) (line : Job → Line) → ((i : Job) → (line i).job ≡ i) → (jobs : List Job) (old mid : Lines) → 1 ≤ length jobs → CanQueue site h b old jobs
+    → ((k : ℕ) → mid k ≡ add_by key line (jobs_live b (take (length jobs - 1) (drop 1 jobs))) old k) → (d : Job) → lives (slice_index_or jobs 0 d) b ≡ true → (k : ℕ) → has_job (slice_index_or jobs 0 d) (jobs_of (mid k)) ≡ false
+first_lacks site h b key line own [] old mid some can added d live k = absurd (omega (arith, some))
+first_lacks site h b key line own (j ∷ js) old mid some can added d live k =
+    ap (λ (ls : List Line). has_job j (jobs_of ls)) (added k ∙ ap (λ (xs : List Job). add_by key line (jobs_live b xs) old k) (rest_is j js))
+    ∙ lacks_by key line own j (jobs_live b js) old k (fewer j (λ i. lives i b) js can.1) ((can.0 live).lacks k)
+
+room_for_one : (bytes was size m n : ℕ) → size ≤ 2147483648 → bytes ≤ was + 2147483648 * m → m ≤ n → was + 2147483648 * (n + 1) < 2 ^ 64 → bytes + size < 2 ^ 64
+room_for_one bytes was size m n small more less fits = omega arith
+
+-- and has room beside them
+pub first_fits : (b : Book) (key : Job → Option ℕ) (line : Job → Line) → ((i : Job) → (line i).len ≤ 2147483648) → (jobs : List Job) (old mid : Lines) (size : ℕ) → 1 ≤ length jobs → size ≤ 2147483648
+    → ((k : ℕ) → mid k ≡ add_by key line (jobs_live b (take (length jobs - 1) (drop 1 jobs))) old k) → ((k : ℕ) → bytes_of (old k) + 2147483648 * length jobs < 2 ^ 64) → (k : ℕ) → bytes_of (mid k) + size < 2 ^ 64
+first_fits b key line small [] old mid size some low added fits k = absurd (omega (arith, some))
+first_fits b key line small (j ∷ js) old mid size some low added fits k =
+    let more : bytes_of (mid k) ≤ bytes_of (old k) + 2147483648 * length (jobs_live b js) =
+    subst (λ (ls : List Line). bytes_of ls ≤ bytes_of (old k) + 2147483648 * length (jobs_live b js)) (sym (added k ∙ ap (λ (xs : List Job). add_by key line (jobs_live b xs) old k) (rest_is j js))) (bytes_by key line small (jobs_live b js) old k) in
+    let all : length (j ∷ js) ≡ length js + 1 = omega arith in
+    room_for_one (bytes_of (mid k)) (bytes_of (old k)) size (length (jobs_live b js)) (length js) low more (filter_le (λ i. lives i b) js) (subst (λ (m : ℕ). bytes_of (old k) + 2147483648 * m < 2 ^ 64) all (fits k))
+
+-- ---- the first of archive jobs
+
+pub first_all : (P : Job → Type 0) (jobs : List Job) (d : Job) → 1 ≤ length jobs → AllByRecursion P jobs → P (slice_index_or jobs 0 d)
+first_all P [] d some all = absurd (omega (arith, some))
+first_all P (j ∷ js) d some all = all.0

@@ -1,0 +1,41 @@
+-- Items of repacks that fail with the recalls of their files.
+use Rattle.std.proofs.Common.{◌≡◌, ◌∙◌, ◌-◌, ◌+◌, ◌≤◌, ◌<◌, ℕ, zero, suc, List, [], ◌∷◌, ◌++◌, refl, sym, ap, arith, length, take, append-nil, append_assoc}
+use Rattle.std.specs.Prelude.{get_or}
+use Rattle.std.proofs.lemmas.List.{take_more}
+use Rattle.cta_model.specs.declared.reports.ItemState.{ItemState}
+use Rattle.cta_model.specs.declared.reports.ItemState.TheVariants as item
+use Rattle.part_values.specs.Repacks.{Repacks, RepacksAgree, Target, repack_in, set_state, set_states}
+use Rattle.space_steps.proofs.SameBooks.{repack_calls_agree}
+use Rattle.fail_calls.specs.Reading.{pair_targets, targets_down}
+
+pub states_same : (s : ItemState) (xs : List Target) (v w : Repacks) → RepacksAgree v w → RepacksAgree (set_states s xs v) (set_states s xs w)
+states_same s [] v w same = same
+states_same s (x ∷ xs) v w same = states_same s xs (set_state x.0 x.1 x.2 s v) (set_state x.0 x.1 x.2 s w) ((repack_calls_agree v w same).set x.0 x.1 x.2 s)
+
+pub states_both : (s : ItemState) (xs ys : List Target) (v : Repacks) → set_states s (xs ++ ys) v ≡ set_states s ys (set_states s xs v)
+states_both s [] ys v = refl
+states_both s (x ∷ xs) ys v = states_both s xs ys (set_state x.0 x.1 x.2 s v)
+
+pub none_down : (id f n : ℕ) (v : Repacks) → n ≡ 0 → RepacksAgree v (set_states item.Failed (targets_down id f n) v)
+none_down id f n v is k = ap (λ (m : ℕ). repack_in (set_states item.Failed (targets_down id f m) v) k) (sym is)
+
+-- the highest copy, and then the lower ones
+pub next_down : (id f n : ℕ) (v u w : Repacks) → 1 ≤ n → RepacksAgree u (set_state id f n item.Failed v) → RepacksAgree w (set_states item.Failed (targets_down id f (n - 1)) u) → RepacksAgree w (set_states item.Failed (targets_down id f n) v)
+next_down id f zero v u w low set rest = absurd (omega arith)
+next_down id f (suc n) v u w low set rest = λ k.
+    (let less : suc n - 1 ≡ n = omega arith in
+    rest k ∙ ap (λ (m : ℕ). repack_in (set_states item.Failed (targets_down id f m) u) k) less
+    ∙ states_same item.Failed (targets_down id f n) u (set_state id f (suc n) item.Failed v) set k)
+
+targets_last : (xs : List (ℕ × ℕ)) (x : ℕ × ℕ) → pair_targets (xs ++ x ∷ []) ≡ pair_targets xs ++ targets_down x.0 x.1 4
+targets_last [] x = append-nil _
+targets_last (y ∷ xs) x = ap (λ (ts : List Target). targets_down y.0 y.1 4 ++ ts) (targets_last xs x) ∙ sym (append_assoc (targets_down y.0 y.1 4) (pair_targets xs) (targets_down x.0 x.1 4))
+
+-- one more of those that wait
+pub next_failed : (xs : List (ℕ × ℕ)) (i : ℕ) (d : ℕ × ℕ) (v u w : Repacks) → i < length xs → RepacksAgree u (set_states item.Failed (pair_targets (take i xs)) v)
+    → RepacksAgree w (set_states item.Failed (targets_down (get_or xs i d).0 (get_or xs i d).1 4) u) → RepacksAgree w (set_states item.Failed (pair_targets (take (i + 1) xs)) v)
+next_failed xs i d v u w low before now k =
+    now k
+    ∙ states_same item.Failed (targets_down (get_or xs i d).0 (get_or xs i d).1 4) u (set_states item.Failed (pair_targets (take i xs)) v) before k
+    ∙ sym (ap (λ (ts : List Target). repack_in (set_states item.Failed ts v) k) (ap pair_targets (take_more xs i d low) ∙ targets_last (take i xs) (get_or xs i d))
+    ∙ ap (λ (r : Repacks). repack_in r k) (states_both item.Failed (pair_targets (take i xs)) (targets_down (get_or xs i d).0 (get_or xs i d).1 4) v))

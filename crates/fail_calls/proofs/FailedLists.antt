@@ -1,0 +1,56 @@
+-- Copies that have failed, one by one.
+use Rattle.std.proofs.Common.{◌≡◌, ◌∙◌, ◌-◌, ◌≤◌, ℕ, List, [], ◌∷◌, length, Bool, true, false, ◌||◌, refl, ap, arith, take, drop}
+use Rattle.std.specs.Prelude.{is_none, if◌then◌else◌, ◌==◌, ◌&&◌, filter}
+use Rattle.std.specs.List.{slice_index_or}
+use Rattle.std.proofs.Math.Seq.{take-length}
+use Rattle.cta_model.specs.declared.asks.Job.{Job}
+use Rattle.cta_model.specs.Mounts.{has_copy, job_of}
+use Rattle.part_values.specs.Failed.{added_copies, copies_of_jobs}
+use Rattle.part_values.specs.Order.{goes_before, insert_job, insert_jobs}
+use Rattle.part_values.specs.Tapes.{Table, place_in}
+use Rattle.fail_calls.specs.Failing.{CanFail, jobs_unplaced}
+
+-- the rest of a list
+pub rest_is : {A : Type 0} (x : A) (xs : List A) → take (length (x ∷ xs) - 1) (drop 1 (x ∷ xs)) ≡ xs
+rest_is x xs = (let e : length (x ∷ xs) - 1 ≡ length xs = omega arith in ap (λ (n : ℕ). take n xs) e ∙ take-length xs)
+
+or_none : (a b : Bool) → a ≡ false → b ≡ false → (a || b) ≡ false
+or_none a b x y = rw (x, y) refl
+
+or_swap : (a b c : Bool) → (a || (b || c)) ≡ (b || (a || c))
+or_swap true true c = refl
+or_swap true false c = refl
+or_swap false b c = refl
+
+-- a list of jobs with one more among them has the copies of both
+has_inserted : (f c : ℕ) (j : Job) (q : List Job) → has_copy f c (insert_job j q) ≡ ((j.file == f && j.copy == c) || has_copy f c q)
+has_inserted f c j [] = refl
+has_inserted f c j (k ∷ ks) =
+    elim (goes_before j k) as (λ b. has_copy f c (if b then j ∷ k ∷ ks else k ∷ insert_job j ks) ≡ ((j.file == f && j.copy == c) || ((k.file == f && k.copy == c) || has_copy f c ks)))
+    [ true ↦ refl | false ↦ ap (λ (b : Bool). (k.file == f && k.copy == c) || b) (has_inserted f c j ks) ∙ or_swap (k.file == f && k.copy == c) (j.file == f && j.copy == c) (has_copy f c ks) ]
+
+has_added : (f c : ℕ) (js q : List Job) → has_copy f c (added_copies js q) ≡ (has_copy f c js || has_copy f c q)
+has_added f c [] q = refl
+has_added f c (j ∷ js) q = has_inserted f c (job_of 0 j.file j.copy) (insert_jobs (copies_of_jobs js) q) ∙ ap (λ (b : Bool). (j.file == f && j.copy == c) || b) (has_added f c js q) ∙ by (j.file == f && j.copy == c) (has_copy f c js) (has_copy f c q)
+  where
+    by : (a b x : Bool) → (a || (b || x)) ≡ ((a || b) || x)
+    by true b x = refl
+    by false b x = refl
+
+fewer : (f c : ℕ) (test : Job → Bool) (js : List Job) → has_copy f c js ≡ false → has_copy f c (filter test js) ≡ false
+fewer f c test [] none = refl
+fewer f c test (j ∷ js) none = by (j.file == f && j.copy == c) (test j) none (λ x. fewer f c test js x) refl
+  where
+    by : (a t : Bool) → (a || has_copy f c js) ≡ false → (has_copy f c js ≡ false → has_copy f c (filter test js) ≡ false) → (j.file == f && j.copy == c) ≡ a → has_copy f c (if t then j ∷ filter test js else filter test js) ≡ false
+    by true t e rest is = absurd (cc)
+    by false true e rest is = or_none _ _ is (rest e)
+    by false false e rest is = rest e
+
+-- the first job's copy is not among the failed ones to which those of the others are added
+pub first_apart : (v : Table) (jobs copies now : List Job) → 1 ≤ length jobs → CanFail copies jobs → now ≡ added_copies (jobs_unplaced v (take (length jobs - 1) (drop 1 jobs))) copies
+    → (d : Job) → has_copy (slice_index_or jobs 0 d).file (slice_index_or jobs 0 d).copy now ≡ false
+first_apart v [] copies now some can added d = absurd (omega (arith, some))
+first_apart v (j ∷ js) copies now some can added d =
+    ap (has_copy j.file j.copy) (added ∙ ap (λ (xs : List Job). added_copies (jobs_unplaced v xs) copies) (rest_is j js))
+    ∙ has_added j.file j.copy (jobs_unplaced v js) copies
+    ∙ or_none _ _ (fewer j.file j.copy (λ (k : Job). is_none (place_in v k.file k.copy)) js can.1) can.0

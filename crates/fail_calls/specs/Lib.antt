@@ -1,0 +1,3 @@
+pub mod Unpinned
+pub mod Failing
+pub mod Reading

@@ -1,0 +1,148 @@
+// What becomes of those that wait for recalls which end.
+ghost use Rattle.std.specs.Prelude.{◌≡◌, ◌<◌, ◌^◌, ◌++◌, ℕ, length, map, IfOk, OnOk};
+ghost use Rattle.cta_model.specs.RepackItems as said;
+ghost use Rattle.cta_model.specs.declared.reports.ItemState.TheVariants as item;
+ghost use Rattle.part_values.specs.JobRows.{book_in};
+ghost use Rattle.part_values.specs.Repacks.{RepacksAgree, set_states};
+ghost use Rattle.part_values.specs.Requests.{RequestsAgree};
+ghost use Rattle.repack_book.specs.Kept.{NamesAgree, repacks_of};
+ghost use Rattle.fail_calls.specs.Failing.{job_files};
+ghost use Rattle.fail_calls.specs.Reading.{ending_of, failed_all, pair_targets, targets_down, waits_for_all, with_file};
+
+use crate::texts::error_of;
+use cta_model::{Charge, ItemState, Job};
+use cta_site::{NoMemory, Rows, Text, ValidSite};
+use job_book::JobBook;
+use part_values::FileEnd;
+use repack_book::RepackBook;
+use stage_book::StageBook;
+use std::alloc::Global;
+
+// The greatest number of copies that a file has.
+const MOST_COPIES: u8 = 4;
+
+// An entry that waits for the recall of a file, and the error of the recall.
+#[derive(Drop)]
+pub(crate) struct Ending {
+    pub(crate) id: u32,
+    pub(crate) file: u32,
+    pub(crate) error: Text,
+}
+
+// The entries that wait for the recall of a file, oldest first. NoMemory gives nothing.
+fn waiting_for(alloc: Global, book: &JobBook, file: u32) -> Result<Rows<u32>, NoMemory>
+    requires { length (said.waiting_for ((book_in book.now.value).recall file)) < 2 ^ 32 }
+    ensures { IfOk result (λ ids. ids.items ≡ said.waiting_for ((book_in book.now.value).recall file)) }
+{
+    let mut ids = Rows::of(Vec::new(alloc));
+    ids.reserve(book.waiting_count(file) as u32)?;
+    book.waiting(file, &mut ids);
+    Ok(ids)
+}
+
+// Adds these entries, each with the file, behind a list. After NoMemory some of them are added.
+fn add_pairs(ids: &[u32], file: u32, out: &mut Vec<(u32, u32)>) -> Result<(), NoMemory>
+    ensures { OnOk result (out.new.items ≡ out.old.items ++ with_file file ids.now) }
+{
+    for id in ids {
+        out.push((*id, file))?;
+    }
+    Ok(())
+}
+
+// Adds the entries that wait for the recall of a file, each with the file, behind a list. After NoMemory some of them are added.
+fn add_waiters(
+    alloc: Global,
+    book: &JobBook,
+    file: u32,
+    out: &mut Vec<(u32, u32)>,
+) -> Result<(), NoMemory>
+    requires { length (said.waiting_for ((book_in book.now.value).recall file)) < 2 ^ 32 }
+    ensures { OnOk result (out.new.items ≡ out.old.items ++ with_file file (said.waiting_for ((book_in book.now.value).recall file))) }
+{
+    let ids = waiting_for(alloc, book, file)?;
+    add_pairs(ids.as_slice(), file, out)
+}
+
+// The entries that wait for the recalls of the files of jobs, each with the file. NoMemory gives nothing.
+pub(crate) fn waiters_of(
+    alloc: Global,
+    book: &JobBook,
+    jobs: &[Job],
+) -> Result<Vec<(u32, u32)>, NoMemory>
+    requires { (f : ℕ) → length (said.waiting_for ((book_in book.now.value).recall f)) < 2 ^ 32 }
+    ensures { IfOk result (λ pairs. pairs.items ≡ waits_for_all (book_in book.now.value).recall (job_files jobs.now)) }
+{
+    let mut pairs = Vec::new(alloc);
+    for job in jobs {
+        add_waiters(alloc, book, job.file, &mut pairs)?;
+    }
+    Ok(pairs)
+}
+
+// How an entry ends that waits for the recall of a file, which is charged once more. NoMemory gives nothing.
+fn ending_for(
+    alloc: Global,
+    site: &ValidSite,
+    book: &JobBook,
+    charge: Charge,
+    pair: (u32, u32),
+) -> Result<Ending, NoMemory>
+    ensures { IfOk result (λ ending. ending ≡ ending_of site.now (book_in book.now.value) charge pair) }
+{
+    let error = error_of(alloc, site, book, charge, pair.1)?;
+    Ok(Ending {
+        id: pair.0,
+        file: pair.1,
+        error,
+    })
+}
+
+// How those end that wait for recalls, which are charged once more. NoMemory gives nothing.
+pub(crate) fn endings_of(
+    alloc: Global,
+    site: &ValidSite,
+    book: &JobBook,
+    charge: Charge,
+    pairs: &[(u32, u32)],
+) -> Result<Vec<Ending>, NoMemory>
+    ensures { IfOk result (λ endings. endings.items ≡ map (ending_of site.now (book_in book.now.value) charge) pairs.now) }
+{
+    let mut endings = Vec::new(alloc);
+    for pair in pairs {
+        endings.push(ending_for(alloc, site, book, charge, *pair)?)?;
+    }
+    Ok(endings)
+}
+
+// The items of the copies from 1 to `copies` of a file have failed in a repack, where they are live.
+fn fail_items(repacks: &mut RepackBook, id: u32, file: u32, copies: u8)
+    ensures repacks { RepacksAgree (repacks_of repacks.new) (set_states item.Failed (targets_down id file copies) (repacks_of repacks.old)) }
+    ensures names { NamesAgree repacks.new repacks.old }
+{
+    if copies == 0 {
+        return;
+    }
+    repacks.set(id, file, copies, ItemState::Failed);
+    fail_items(repacks, id, file, copies - 1);
+}
+
+// The items of the files have failed in the repacks among those that wait.
+pub(crate) fn fail_readers(repacks: &mut RepackBook, pairs: &[(u32, u32)])
+    ensures repacks { RepacksAgree (repacks_of repacks.new) (set_states item.Failed (pair_targets pairs.now) (repacks_of repacks.old)) }
+    ensures names { NamesAgree repacks.new repacks.old }
+{
+    for pair in pairs {
+        fail_items(repacks, pair.0, pair.1, MOST_COPIES);
+    }
+}
+
+// The files fail in the requests among those that wait, with their errors.
+pub(crate) fn fail_requests(requests: &mut StageBook, mut endings: Vec<Ending>, at: u64)
+    ensures { RequestsAgree requests.new (failed_all at endings.items requests.old) }
+{
+    while let Some(ending) = endings.pop() {
+        let Ending { id, file, error } = ending;
+        requests.finish(id, file, at, FileEnd::Failed(error));
+    }
+}

@@ -1,0 +1,25 @@
+// Copies that have failed.
+ghost use Rattle.std.specs.Prelude.{◌≡◌, ◌+◌, ◌≤◌, length};
+ghost use Rattle.part_values.specs.Failed.{added_copies};
+ghost use Rattle.fail_calls.specs.Failing.{CanFail, jobs_unplaced};
+
+use cta_model::Job;
+use failed_copies::FailedCopies;
+use tape_files::TapeFiles;
+
+// The copies of jobs that have no place have failed.
+pub(crate) fn add_failed(failed: &mut FailedCopies, tapes: &TapeFiles, jobs: &[Job])
+    requires room { length jobs.now ≤ failed.old.room }
+    requires apart { CanFail failed.old.value jobs.now }
+    ensures value { failed.new.value ≡ added_copies (jobs_unplaced tapes.now.value jobs.now) failed.old.value }
+    ensures room { failed.old.room ≤ failed.new.room + length jobs.now }
+{
+    let [first, rest @ ..] = jobs else {
+        return;
+    };
+    add_failed(failed, tapes, rest);
+    if tapes.place(first.file, first.copy).is_some() {
+        return;
+    }
+    failed.add(*first);
+}

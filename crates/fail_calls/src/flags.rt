@@ -1,0 +1,42 @@
+// Flags of files, whether they are safe on tape.
+ghost use Rattle.std.specs.Prelude.{◌≡◌, ◌≤◌};
+ghost use Rattle.cta_model.specs.Files.{copies_of_file};
+ghost use Rattle.part_values.specs.Held.{HeldAgree, set_all};
+ghost use Rattle.part_values.specs.JobRows.{book_in};
+ghost use Rattle.part_values.specs.Tapes.{safe_in};
+ghost use Rattle.fail_calls.specs.Failing.{job_files};
+
+use cta_model::Job;
+use cta_site::ValidSite;
+use disk_buffer::DiskBuffer;
+use file_places::is_safe;
+use job_book::JobBook;
+use kept_history::KeptHistory;
+use tape_files::TapeFiles;
+
+// How many copies a file has, at most 4.
+fn copies_of(site: &ValidSite, history: &KeptHistory, file: u32) -> u8
+    ensures copies { result ≡ copies_of_file site.now history.now.value file }
+    ensures few { result ≤ 4 }
+{
+    site.numbers_are_known();
+    site.copies_of(history.path_of(file))
+}
+
+// The files of jobs get their flags, by the table and the book.
+pub(crate) fn set_flags(
+    buffer: &mut DiskBuffer,
+    table: &TapeFiles,
+    book: &JobBook,
+    site: &ValidSite,
+    history: &KeptHistory,
+    jobs: &[Job],
+)
+    ensures held { HeldAgree buffer.new.held.value (set_all (λ f. safe_in table.now.value (book_in book.now.value).archive f (copies_of_file site.now history.now.value f)) (job_files jobs.now) buffer.old.held.value) }
+    ensures contents { buffer.new.contents ≡ buffer.old.contents }
+{
+    for job in jobs {
+        let copies = copies_of(site, history, job.file);
+        buffer.set_safe(job.file, is_safe(table, book, job.file, copies));
+    }
+}

@@ -1,0 +1,19 @@
+//! A Failed carried out: jobs that a mount could not write or read are given back and charged, and what depends on them is made true.
+#![tactic(auto)]
+
+mod charges;
+mod copies;
+mod endings;
+mod entries;
+mod failures;
+mod flags;
+mod mounts;
+mod reads;
+mod reads_back;
+mod sizes;
+mod texts;
+mod writes;
+mod writes_back;
+
+pub use reads::fail_reads;
+pub use writes::fail_writes;
