@@ -21,7 +21,8 @@ use Rattle.job_steps.proofs.BookSteps.{tell_chain}
 use Rattle.job_steps.proofs.PartSteps.{parts_failed}
 use Rattle.space_steps.specs.BookCalls.{jobs_failed}
 use Rattle.space_steps.specs.Buffer.{is_file_of}
-use Rattle.fail_calls.specs.Failing.{is_last_in, job_files, jobs_ended}
+use Rattle.copy_ends.specs.Flags.{job_files}
+use Rattle.fail_calls.specs.Failing.{is_last_in, jobs_ended}
 use Rattle.fail_calls.proofs.FailFacts.{IsFailure, failed, failed_entry, lives_is, longer}
 
 -- ---- lists

@@ -29,7 +29,7 @@ use Rattle.space_steps.specs.BookCalls.{readers, writers}
 use Rattle.space_steps.proofs.RepackTurns.{all_set, has_target, readers_hit, set_live, set_miss, set_off, sets_are, with_items, writers_hit}
 use Rattle.space_steps.proofs.RequestTurns.{has_call}
 use Rattle.fail_calls.specs.Reading.{pair_targets, targets_down, waits_for_all}
-use Rattle.fail_calls.specs.Unpinned.{is_pinned_by}
+use Rattle.copy_ends.specs.Unpinned.{is_pinned_by}
 use Rattle.fail_calls.proofs.EndedFiles.{pair_call}
 use Rattle.fail_calls.proofs.EndedItems.{states_both}
 

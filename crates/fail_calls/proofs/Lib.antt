@@ -1,7 +1,4 @@
 pub mod Books
-pub mod Marks
-pub mod Writing
-pub mod Unpinning
 pub mod FailedLists
 pub mod BackLists
 pub mod Claimed

@@ -1,7 +1,6 @@
 -- A Failed of a mount that reads, carried out on all parts.
-use Rattle.std.proofs.Common.{◌≡◌, ◌∙◌, ◌+◌, ◌≤◌, ◌⊎◌, ℕ, suc, inl, inr, List, [], ◌∷◌, ◌++◌, length, Bool, true, false, ◌||◌, not, refl, sym, ap, subst, arith}
-use Rattle.std.specs.Prelude.{Option, Some, None, option_map, is_none, is_some, if◌then◌else◌, ◌==◌, ◌&&◌, filter, map, nat_le}
-use Rattle.std.proofs.lemmas.Bool.{eq-eqb, eqb-true}
+use Rattle.std.proofs.Common.{◌≡◌, ◌∙◌, ◌+◌, ◌≤◌, ◌⊎◌, ℕ, suc, inl, inr, List, [], ◌∷◌, ◌++◌, length, Bool, true, false, not, refl, sym, ap, subst, arith}
+use Rattle.std.specs.Prelude.{Option, Some, None, option_map, is_none, is_some, if◌then◌else◌, ◌&&◌, filter, map, nat_le}
 use Rattle.std.proofs.lemmas.List.Elements.{filter-append}
 use Rattle.blob.specs.declared.sum.Sum256.{Sum256}
 use Rattle.cta_site.specs.declared.site.Site.{Site}
@@ -17,7 +16,7 @@ use Rattle.cta_model.specs.Charges.{is_last_charge}
 use Rattle.cta_model.specs.Files.{copies_of_file, is_live}
 use Rattle.cta_model.specs.History.{History, has_number, is_number, moment_of}
 use Rattle.cta_model.specs.Jobs.{is_live_job}
-use Rattle.cta_model.specs.Mounts.{drive_by, has_job, mount_of, same_direction, same_job, tape_by}
+use Rattle.cta_model.specs.Mounts.{drive_by, has_job, mount_of, same_direction, tape_by}
 use Rattle.cta_model.specs.Places.{place_of}
 use Rattle.cta_model.specs.Queues.{direction_of, key_by, key_of}
 use Rattle.cta_model.specs.Space.{is_safe}
@@ -58,8 +57,9 @@ use Rattle.kept_parts.specs.Called.{AreKeptCalled}
 use Rattle.kept_parts.specs.Kept.{values_of}
 use Rattle.kept_parts.specs.declared.parts.KeptParts.{KeptParts}
 use Rattle.job_book.specs.Live.{lives}
-use Rattle.fail_calls.specs.Failing.{add_by, job_files, jobs_live}
-use Rattle.fail_calls.specs.Unpinned.{is_pinned_by}
+use Rattle.copy_ends.specs.Flags.{job_files}
+use Rattle.fail_calls.specs.Failing.{add_by, jobs_live}
+use Rattle.copy_ends.specs.Unpinned.{is_pinned_by}
 use Rattle.fail_calls.proofs.Claimed.{IsClaimable, in_front}
 use Rattle.fail_calls.proofs.EndedJobs.{book_called, ended_are, ended_has, files_are, filter_has, filter_on}
 use Rattle.fail_calls.proofs.FailFacts.{failed, failed_entry, lives_is, longer, sizes_both}
@@ -80,7 +80,6 @@ use Rattle.part_values.specs.Held.{unhold}
 use Rattle.part_values.specs.Requests.{Requests}
 use Rattle.part_values.specs.Tapes.{TablesAgree}
 use Rattle.queue_laws.proofs.FailSteps.{failed_charges}
-use Rattle.space_steps.specs.Buffer.{resident_at}
 use Rattle.tape_files.specs.Sources.{sources_in}
 use Rattle.fail_calls.specs.declared.endings.Ending.{Ending}
 use Rattle.fail_calls.specs.Reading.{ending_of, error_told, error_with, failed_all, pair_targets, source_in, waits_for_all}

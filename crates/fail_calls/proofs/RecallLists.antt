@@ -13,7 +13,7 @@ use Rattle.part_values.specs.declared.space.Resident.{Resident}
 use Rattle.part_values.specs.Held.{Held, numbers, set_all}
 use Rattle.space_steps.specs.BookCalls.{recalls_in}
 use Rattle.space_steps.specs.Buffer.{resident_at}
-use Rattle.fail_calls.specs.Failing.{job_files}
+use Rattle.copy_ends.specs.Flags.{job_files}
 use Rattle.fail_calls.proofs.EndedJobs.{filter_on}
 
 -- ---- flags that stay

@@ -19,7 +19,7 @@ use Rattle.cta_laws.proofs.JobLists.{filter_le}
 use Rattle.part_values.specs.Requests.{Requests, request_in, turned_file}
 use Rattle.space_steps.specs.BookCalls.{waiters}
 use Rattle.space_steps.proofs.RequestTurns.{all_turned}
-use Rattle.fail_calls.specs.Failing.{job_files}
+use Rattle.copy_ends.specs.Flags.{job_files}
 use Rattle.fail_calls.specs.Reading.{waits_for_all, with_file}
 
 -- ---- how many wait

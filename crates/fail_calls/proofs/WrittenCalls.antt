@@ -19,7 +19,7 @@ use Rattle.cta_model.specs.Charges.{is_last_charge}
 use Rattle.cta_model.specs.Files.{copies_of_file, is_live, live_file, path_of}
 use Rattle.cta_model.specs.History.{History, has_number, is_empty, is_number, moment_of}
 use Rattle.cta_model.specs.Jobs.{is_live_job}
-use Rattle.cta_model.specs.Mounts.{drive_by, has_job, mount_of, same_direction, same_job, tape_by}
+use Rattle.cta_model.specs.Mounts.{drive_by, has_job, mount_of, same_direction, tape_by}
 use Rattle.cta_model.specs.Pins.{Pin, repack_pins}
 use Rattle.cta_model.specs.Places.{place_of}
 use Rattle.cta_model.specs.Queues.{direction_of, key_by, key_of, way_by}
@@ -33,13 +33,12 @@ use Rattle.cta_laws.proofs.FileFrames.{copies_older}
 use Rattle.cta_laws.proofs.JobFiles.{resident_parts}
 use Rattle.cta_laws.proofs.PlaceLaw.{named_within, path_older}
 use Rattle.cta_laws.proofs.Tests.{bool_cases}
-use Rattle.part_values.specs.declared.jobs.Line.{Line}
 use Rattle.part_values.specs.declared.space.Resident.{Resident}
 use Rattle.part_values.specs.Failed.{added_copies}
 use Rattle.part_values.specs.Held.{Held, HeldAgree, numbers, set_all, set_safe, unpin_all}
 use Rattle.part_values.specs.JobBook.{TellSame, charge_jobs, end_jobs, give_back_jobs}
 use Rattle.part_values.specs.JobRows.{JobRows, book_in}
-use Rattle.part_values.specs.Queues.{Lines, Queues, add_at, insert_line, lines_in}
+use Rattle.part_values.specs.Queues.{Lines, Queues, lines_in}
 use Rattle.part_values.specs.Repacks.{Repacks, RepacksAgree, has_item_by, set_states}
 use Rattle.part_values.specs.Requests.{RequestsAgree, finish_all}
 use Rattle.part_values.specs.Room.{Roomed}
@@ -68,8 +67,9 @@ use Rattle.kept_parts.specs.Called.{AreKeptCalled}
 use Rattle.kept_parts.specs.Kept.{ArePartsKept, values_of}
 use Rattle.kept_parts.specs.declared.parts.KeptParts.{KeptParts}
 use Rattle.job_book.specs.Live.{lives}
-use Rattle.fail_calls.specs.Failing.{add_by, job_files, jobs_ended, jobs_live, jobs_unplaced}
-use Rattle.fail_calls.specs.Unpinned.{AreTakenOff, is_pinned_by}
+use Rattle.copy_ends.specs.Flags.{job_files}
+use Rattle.fail_calls.specs.Failing.{add_by, jobs_ended, jobs_live, jobs_unplaced}
+use Rattle.copy_ends.specs.Unpinned.{AreTakenOff, is_pinned_by}
 use Rattle.fail_calls.proofs.AddedLines.{all_way, by_both, by_jobs, by_same, none_way}
 use Rattle.fail_calls.proofs.Claimed.{IsClaimable, in_front}
 use Rattle.fail_calls.proofs.EndedJobs.{book_behind, book_called, charge_by, ended_are, ended_has, files_are, filter_both, filter_has, filter_on}

@@ -1,5 +1,5 @@
 -- The jobs that a Failed names: those that end with their charge, those that are live, and what puts them back into their queues.
-use Rattle.std.specs.Prelude.{ℕ, ◌≡◌, ◌≤◌, ◌+◌, List, [], ◌∷◌, Option, length, Bool, true, false, ◌&&◌, is_none, filter, map, nat_le}
+use Rattle.std.specs.Prelude.{ℕ, ◌≡◌, ◌≤◌, ◌+◌, List, [], ◌∷◌, Option, length, Bool, true, false, ◌&&◌, is_none, filter, nat_le}
 use Rattle.cta_site.specs.declared.site.Site.{Site}
 use Rattle.cta_model.specs.declared.asks.Job.{Job}
 use Rattle.cta_model.specs.Files.{copies_of_file}
@@ -12,10 +12,6 @@ use Rattle.part_values.specs.JobBook.{Book}
 use Rattle.part_values.specs.Queues.{Lines, add_at}
 use Rattle.part_values.specs.declared.jobs.Line.{Line}
 use Rattle.part_values.specs.Tapes.{Table, place_in}
-
--- the files of jobs
-abbrev pub job_files : List Job → List ℕ
-job_files jobs = map (λ (j : Job). j.file) jobs
 
 -- whether a job is live, and one charge more is its last, where so many charges end a job
 abbrev pub is_last_in : ℕ → Book → Job → Bool

@@ -1,3 +1,2 @@
-pub mod Unpinned
 pub mod Failing
 pub mod Reading

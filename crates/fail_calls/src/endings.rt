@@ -6,7 +6,7 @@ ghost use Rattle.part_values.specs.JobRows.{book_in};
 ghost use Rattle.part_values.specs.Repacks.{RepacksAgree, set_states};
 ghost use Rattle.part_values.specs.Requests.{RequestsAgree};
 ghost use Rattle.repack_book.specs.Kept.{NamesAgree, repacks_of};
-ghost use Rattle.fail_calls.specs.Failing.{job_files};
+ghost use Rattle.copy_ends.specs.Flags.{job_files};
 ghost use Rattle.fail_calls.specs.Reading.{ending_of, failed_all, pair_targets, targets_down, waits_for_all, with_file};
 
 use crate::texts::error_of;

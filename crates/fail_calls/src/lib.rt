@@ -2,11 +2,9 @@
 #![tactic(auto)]
 
 mod charges;
-mod copies;
 mod endings;
 mod entries;
 mod failures;
-mod flags;
 mod mounts;
 mod reads;
 mod reads_back;

@@ -11,7 +11,8 @@ ghost use Rattle.cta_model.specs.declared.states.Mount.{Mount};
 ghost use Rattle.kept_parts.specs.Kept.{ArePartsKept};
 ghost use Rattle.kept_parts.specs.Same.{TellSameParts};
 ghost use Rattle.part_values.specs.JobRows.{book_in};
-ghost use Rattle.fail_calls.specs.Failing.{job_files, jobs_ended};
+ghost use Rattle.copy_ends.specs.Flags.{job_files};
+ghost use Rattle.fail_calls.specs.Failing.{jobs_ended};
 ghost use Rattle.fail_calls.specs.Reading.{ending_of, waits_for_all};
 
 use crate::charges::{ended_of, resolve};

@@ -11,14 +11,13 @@ ghost use Rattle.part_values.specs.JobRows.{book_in};
 ghost use Rattle.fail_calls.specs.Failing.{jobs_ended};
 
 use crate::charges::{ended_of, resolve};
-use crate::copies::fail_copies;
 use crate::entries::{append_failed, make_room};
 use crate::failures::add_failed;
-use crate::flags::set_flags;
 use crate::mounts::mount_at;
 use crate::sizes::bytes_of;
 use crate::writes_back::queue_writes;
-use cta_model::{Answer, Ask, Charge, Direction, Fault, Job};
+use copy_ends::{end_copies, set_flags};
+use cta_model::{Answer, Ask, Charge, Direction, Fault, ItemState, Job};
 use cta_site::{NoMemory, Rows};
 use kept_history::KeptHistory;
 use kept_parts::{KeptParts, Needs, kept_parts_move, same_parts_are_kept};
@@ -120,7 +119,8 @@ fn carry_out(
         history,
         fewer,
     );
-    fail_copies(&mut parts.repacks, &mut parts.buffer, ended);
+    let repacks = &mut parts.repacks;
+    end_copies(repacks, &mut parts.buffer, ended, ItemState::Failed);
     let drive = mounted.drive;
     append_failed(history, at, drive, mount, fault, charged, returned);
 }

@@ -52,10 +52,11 @@ use Rattle.disk_buffer.specs.Stored.{Stored}
 use Rattle.kept_parts.specs.Called.{AreKeptCalled}
 use Rattle.kept_parts.specs.Kept.{ArePartsKept, values_of}
 use Rattle.kept_parts.specs.declared.parts.KeptParts.{KeptParts}
-use Rattle.flush_calls.specs.Items.{fates_told, job_files, live_jobs, with_fates}
-use Rattle.flush_calls.specs.Unpinned.{AreTakenOff, is_pinned_by}
+use Rattle.copy_ends.specs.Flags.{job_files}
+use Rattle.flush_calls.specs.Items.{fates_told, live_jobs, with_fates}
+use Rattle.copy_ends.specs.Unpinned.{AreTakenOff, is_pinned_by}
 use Rattle.flush_calls.proofs.Lawful.{IsFlush, entry_next, flush_entry}
-use Rattle.flush_calls.proofs.Marks.{flags_same}
+use Rattle.copy_ends.proofs.Marks.{flags_same}
 use Rattle.flush_calls.proofs.Told.{done_are, fates_are, jobs_are, put_are, zip_is}
 
 -- ---- what was done to each part

@@ -20,7 +20,8 @@ use Rattle.space_steps.specs.Buffer.{is_put_of}
 use Rattle.space_steps.specs.BookCalls.{jobs_done}
 use Rattle.entry_steps.specs.Sessions.{birth_told, fate_told, is_live_told}
 use Rattle.job_book.specs.Live.{lives}
-use Rattle.flush_calls.specs.Items.{fates_told, job_files, live_jobs, with_fates}
+use Rattle.copy_ends.specs.Flags.{job_files}
+use Rattle.flush_calls.specs.Items.{fates_told, live_jobs, with_fates}
 
 -- ---- one job
 

@@ -1,5 +1,5 @@
 -- The items of a Flushed, as they are carried out.
-use Rattle.std.specs.Prelude.{ℕ, ◌≤◌, List, map, filter}
+use Rattle.std.specs.Prelude.{◌≤◌, List, map, filter}
 use Rattle.std.specs.List.{AllByRecursion}
 use Rattle.cta_model.specs.declared.asks.Fate.{Fate}
 use Rattle.cta_model.specs.declared.asks.Item.{Item}
@@ -27,7 +27,3 @@ with_fates v items = map (λ (i : Item). (i, fate_told v i.job)) items
 -- the jobs of the items that are live, as a job book tells it
 abbrev pub live_jobs : JobRows → List Item → List Job
 live_jobs v items = filter (is_live_told v) (item_jobs items)
-
--- the files of jobs
-abbrev pub job_files : List Job → List ℕ
-job_files jobs = map (λ (j : Job). j.file) jobs

@@ -9,11 +9,10 @@ ghost use Rattle.part_values.specs.declared.mounts.OpenMount.{OpenMount};
 ghost use Rattle.part_values.specs.Mounts.{has_mount, row_of};
 ghost use Rattle.flush_calls.specs.Items.{fates_told, live_jobs};
 
-use crate::copies::finish_copies;
-use crate::flags::set_flags;
 use crate::items::put_items;
 use crate::jobs::{end_jobs, give_back};
-use cta_model::{Actor, Answer, Ask, Direction, Entry, Fate, Item, Job};
+use copy_ends::{end_copies, set_flags};
+use cta_model::{Actor, Answer, Ask, Direction, Entry, Fate, Item, ItemState, Job};
 use cta_site::Rows;
 use kept_history::KeptHistory;
 use kept_parts::{KeptParts, kept_parts_move};
@@ -83,7 +82,8 @@ pub(crate) fn carry_out(
         history,
         live,
     );
-    finish_copies(&mut parts.repacks, &mut parts.buffer, live);
+    let repacks = &mut parts.repacks;
+    end_copies(repacks, &mut parts.buffer, live, ItemState::Done);
     let at = history.moment_of(at);
     history.push(Entry {
         at,

@@ -2,9 +2,7 @@
 #![tactic(auto)]
 
 mod carried;
-mod copies;
 mod fates;
-mod flags;
 mod flushed;
 mod items;
 mod jobs;

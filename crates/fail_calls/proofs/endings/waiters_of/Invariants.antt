@@ -1,7 +1,7 @@
 -- The entries that wait for the recalls of the items that the loop has passed were added.
 use Rattle.std.proofs.Common.{◌≡◌, take}
 use Rattle.part_values.specs.JobRows.{book_in}
-use Rattle.fail_calls.specs.Failing.{job_files}
+use Rattle.copy_ends.specs.Flags.{job_files}
 use Rattle.fail_calls.specs.Reading.{waits_for_all}
 use Rattle.fail_calls.proofs.endings.waiters_of.Given as goal
 

@@ -20,7 +20,8 @@ use Rattle.part_values.specs.JobBook.{TellSame, charge_jobs, end_jobs, give_back
 use Rattle.part_values.specs.JobRows.{book_in}
 use Rattle.part_values.specs.Queues.{lines_in}
 use Rattle.queue_laws.specs.Lines.{line_of}
-use Rattle.fail_calls.specs.Failing.{CanQueue, add_by, job_files, jobs_live}
+use Rattle.copy_ends.specs.Flags.{job_files}
+use Rattle.fail_calls.specs.Failing.{CanQueue, add_by, jobs_live}
 use Rattle.fail_calls.proofs.Behind.{kept_behind}
 use Rattle.fail_calls.proofs.FailFacts.{IsFailure, done_is, failed, entries_fit, row_there, opened, small_files}
 use Rattle.fail_calls.proofs.WriteFacts.{IsWrite, can_fail, charged_copies, charged_fits, charged_once, charged_puts, charged_queue, charges_few, ended_few, returned_copies, returned_fits, returned_puts, returned_queue, sizes_fit, tape_low, writes_way}
@@ -337,7 +338,7 @@ returns-clause-kept c =
     let waits : (k : ℕ) → lines_in c.queue_writes-2.new.pools.value k ≡ add_by (key_of c.args.site.now c.args.history.now.value) (line_of c.args.site.now c.args.history.now.value direction.Archive) (jobs_live (book_in c.resolve.new.book.value) c.args.charged.items) (lines_in c.queue_writes.new.pools.value) k =
     λ k. subst (λ (s : Site). lines_in c.queue_writes-2.new.pools.value k ≡ add_by (key_of s c.args.history.now.value) (line_of s c.args.history.now.value direction.Archive) (jobs_live (book_in c.resolve.new.book.value) c.args.charged.items) (lines_in c.queue_writes.new.pools.value) k) c.site-rules.ensures
     (subst (λ (js : List Job). lines_in c.queue_writes-2.new.pools.value k ≡ add_by (key_of c.site-rules.result.now c.args.history.now.value) (line_of c.site-rules.result.now c.args.history.now.value direction.Archive) (jobs_live (book_in c.resolve.new.book.value) js) (lines_in c.queue_writes.new.pools.value) k) c.as_slice-fewer.ensures (c.queue_writes-2.ensures.lines k)) in
-    let done : IsWritten c.args.site.now c.args.history.now.value c.args.at c.args.mount c.args.fault c.args.charged.items c.args.returned.items c.args.ended.now c.mount_at-mounted.result (c.bytes_of.result + c.bytes_of-2.result) c.args.parts.now c.add_failed.new.failed c.unclaim.new.self c.resolve.new.book c.queue_writes.new.pools c.queue_writes-2.new.pools c.set_flags.new.buffer c.fail_copies.new.buffer c.fail_copies.new.repacks = record {
+    let done : IsWritten c.args.site.now c.args.history.now.value c.args.at c.args.mount c.args.fault c.args.charged.items c.args.returned.items c.args.ended.now c.mount_at-mounted.result (c.bytes_of.result + c.bytes_of-2.result) c.args.parts.now c.add_failed.new.failed c.unclaim.new.self c.resolve.new.book c.queue_writes.new.pools c.queue_writes-2.new.pools c.set_flags.new.buffer c.end_copies.new.buffer c.end_copies.new.repacks = record {
       failure = f;
       some = w.good.limits.tries_from;
       kept = c.requires.kept;
@@ -359,12 +360,12 @@ returns-clause-kept c =
           (subst (λ (js : List Job). HeldAgree c.set_flags.new.buffer.held.value (set_all (λ f. safe_in c.unclaim.new.self.value (book_in c.resolve.new.book.value).archive f (copies_of_file c.site-rules.result.now c.args.history.now.value f)) (job_files js) c.args.parts.now.buffer.held.value)) c.as_slice-fewer.ensures
           c.set_flags.ensures.held);
       same = c.set_flags.ensures.contents;
-      finished = c.fail_copies.ensures.repacks;
-      named = c.fail_copies.ensures.names;
-      pins = c.fail_copies.ensures.pins;
-      still = c.fail_copies.ensures.contents;
+      finished = c.end_copies.ensures.repacks;
+      named = c.end_copies.ensures.names;
+      pins = c.end_copies.ensures.pins;
+      still = c.end_copies.ensures.contents;
     } in
     kept_behind site h c.append_failed.new.history.value c.args.at (failed c.args.mount c.args.fault c.args.charged.items c.args.returned.items) answer.Done c.args.parts.now _ c.kept_parts_move.ensures c.requires.legal c.requires.kept c.requires.at c.requires.fit
     (done_is c.args.site.now c.args.history.now.value c.args.at c.args.mount c.args.fault c.args.charged.items c.args.returned.items f) c.requires.accepted
-    (written_called c.args.site.now c.args.history.now.value c.args.at c.args.mount c.args.fault c.args.charged.items c.args.returned.items c.args.ended.now c.mount_at-mounted.result (c.bytes_of.result + c.bytes_of-2.result) c.args.parts.now c.add_failed.new.failed c.unclaim.new.self c.resolve.new.book c.queue_writes.new.pools c.queue_writes-2.new.pools c.set_flags.new.buffer c.fail_copies.new.buffer c.fail_copies.new.repacks done)
+    (written_called c.args.site.now c.args.history.now.value c.args.at c.args.mount c.args.fault c.args.charged.items c.args.returned.items c.args.ended.now c.mount_at-mounted.result (c.bytes_of.result + c.bytes_of-2.result) c.args.parts.now c.add_failed.new.failed c.unclaim.new.self c.resolve.new.book c.queue_writes.new.pools c.queue_writes-2.new.pools c.set_flags.new.buffer c.end_copies.new.buffer c.end_copies.new.repacks done)
     c.append_failed.ensures

@@ -9,7 +9,8 @@ use Rattle.part_values.specs.Held.{HeldAgree, set_all}
 use Rattle.part_values.specs.JobBook.{TellSame, give_back_jobs}
 use Rattle.part_values.specs.JobRows.{book_in}
 use Rattle.part_values.specs.Tapes.{HaveFlushed, row_in, safe_in}
-use Rattle.flush_calls.specs.Items.{AreOfCopies, job_files, with_fates}
+use Rattle.copy_ends.specs.Flags.{job_files}
+use Rattle.flush_calls.specs.Items.{AreOfCopies, with_fates}
 use Rattle.flush_calls.proofs.Called.{IsCarriedOut, flush_called, kept_as, longer}
 use Rattle.flush_calls.proofs.Lawful.{IsFlush, are_of_copies, drive_is, entries_fit, entry_is, flush_entry, fseqs_fit, has_row, tape_fits, tape_is}
 use Rattle.flush_calls.proofs.carried.carry_out.Goals as goal
@@ -59,7 +60,7 @@ returns-clause-kept c =
     let by = drive_is c.args.site.now c.args.history.now.value c.args.at c.args.mount _ c.args.items.items _ f c.requires.kept.stand.mounts c.drive_of-drive.ensures in
     let entry = c.push.ensures.value ∙ entry_is c.args.history.now.value c.args.at c.args.mount _ _ c.args.items.items c.args.fates.items c.moment_of-at.ensures by in
     let on = tape_is c.args.site.now c.args.history.now.value c.args.at c.args.mount _ c.args.items.items _ f c.requires.kept.stand.mounts c.tape_of-tape.ensures in
-    let done : IsCarriedOut c.args.site.now c.args.history.now.value c.args.mount c.tape_of-tape.result c.args.items.items c.args.fates.items c.args.live.now c.args.parts.now c.put_items.new.table c.give_back.new.book.value c.end_jobs.new.book c.set_flags.new.buffer c.finish_copies.new.buffer c.finish_copies.new.repacks = record {
+    let done : IsCarriedOut c.args.site.now c.args.history.now.value c.args.mount c.tape_of-tape.result c.args.items.items c.args.fates.items c.args.live.now c.args.parts.now c.put_items.new.table c.give_back.new.book.value c.end_jobs.new.book c.set_flags.new.buffer c.end_copies.new.buffer c.end_copies.new.repacks = record {
       told = c.requires.fates;
       jobs = c.requires.live;
       on = on;
@@ -71,13 +72,13 @@ returns-clause-kept c =
           subst (λ (s : Site). HeldAgree c.set_flags.new.buffer.held.value (set_all (λ f. safe_in c.put_items.new.table.value (book_in c.end_jobs.new.book.value).archive f (copies_of_file s c.args.history.now.value f)) (job_files c.args.live.now) c.args.parts.now.buffer.held.value))
           c.site-rules.ensures c.set_flags.ensures.held;
       same = c.set_flags.ensures.contents;
-      finished = c.finish_copies.ensures.repacks;
-      named = c.finish_copies.ensures.names;
-      pins = c.finish_copies.ensures.pins;
-      still = c.finish_copies.ensures.contents;
+      finished = c.end_copies.ensures.repacks;
+      named = c.end_copies.ensures.names;
+      pins = c.end_copies.ensures.pins;
+      still = c.end_copies.ensures.contents;
     } in
     kept_as c.args.site.now _ _ _ entry
     (c.kept_parts_move.ensures c.args.site.now c.args.history.now.value (flush_entry c.args.history.now.value c.args.at c.args.mount c.args.items.items c.args.fates.items) c.args.parts.now _ c.requires.legal
     (longer c.args.site.now c.args.history.now.value c.args.at c.args.mount c.args.items.items c.args.fates.items c.args.parts.now f c.requires.kept c.requires.fates) c.requires.kept
-    (flush_called c.args.site.now c.args.history.now.value c.args.at c.args.mount c.tape_of-tape.result c.args.items.items c.args.fates.items c.args.live.now c.args.parts.now c.put_items.new.table c.give_back.new.book.value c.end_jobs.new.book c.set_flags.new.buffer c.finish_copies.new.buffer c.finish_copies.new.repacks f
+    (flush_called c.args.site.now c.args.history.now.value c.args.at c.args.mount c.tape_of-tape.result c.args.items.items c.args.fates.items c.args.live.now c.args.parts.now c.put_items.new.table c.give_back.new.book.value c.end_jobs.new.book c.set_flags.new.buffer c.end_copies.new.buffer c.end_copies.new.repacks f
     c.requires.kept done))

@@ -4,7 +4,7 @@ ghost use Rattle.cta_model.specs.Files.{copies_of_file};
 ghost use Rattle.part_values.specs.Held.{HeldAgree, set_all};
 ghost use Rattle.part_values.specs.JobRows.{book_in};
 ghost use Rattle.part_values.specs.Tapes.{safe_in};
-ghost use Rattle.fail_calls.specs.Failing.{job_files};
+ghost use Rattle.copy_ends.specs.Flags.{job_files};
 
 use cta_model::Job;
 use cta_site::ValidSite;
@@ -23,8 +23,9 @@ fn copies_of(site: &ValidSite, history: &KeptHistory, file: u32) -> u8
     site.copies_of(history.path_of(file))
 }
 
-// The files of jobs get their flags, by the table and the book.
-pub(crate) fn set_flags(
+/// The files of these jobs get their flags, whether they are safe on tape, by the table of tapes and the job book. It takes no memory. Its
+/// cost is the number of the jobs, each with the logarithm of the number of files and pins. This project's own.
+pub fn set_flags(
     buffer: &mut DiskBuffer,
     table: &TapeFiles,
     book: &JobBook,

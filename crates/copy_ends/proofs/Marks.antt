@@ -6,7 +6,7 @@ use Rattle.cta_model.specs.declared.asks.Job.{Job}
 use Rattle.cta_laws.proofs.Claims.{AllOf}
 use Rattle.part_values.specs.Held.{Held, HeldAgree, set_all, set_safe}
 use Rattle.space_steps.proofs.SameBuffers.{buffer_calls_agree}
-use Rattle.fail_calls.specs.Failing.{job_files}
+use Rattle.copy_ends.specs.Flags.{job_files}
 
 -- buffers that agree with one another agree
 pub held_chain : (a b c : Held) → HeldAgree a b → HeldAgree b c → HeldAgree a c

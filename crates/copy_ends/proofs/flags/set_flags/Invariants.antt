@@ -4,8 +4,8 @@ use Rattle.cta_model.specs.Files.{copies_of_file}
 use Rattle.part_values.specs.Held.{HeldAgree, set_all}
 use Rattle.part_values.specs.JobRows.{book_in}
 use Rattle.part_values.specs.Tapes.{safe_in}
-use Rattle.flush_calls.specs.Items.{job_files}
-use Rattle.flush_calls.proofs.flags.set_flags.Given as goal
+use Rattle.copy_ends.specs.Flags.{job_files}
+use Rattle.copy_ends.proofs.flags.set_flags.Given as goal
 
 abbrev pub invariant-loop-job : goal.invariant-loop-job
 invariant-loop-job l = record {

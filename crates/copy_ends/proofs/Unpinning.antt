@@ -16,9 +16,9 @@ use Rattle.space_steps.specs.BookCalls.{writers}
 use Rattle.space_steps.proofs.RepackTurns.{set_is, with_items}
 use Rattle.space_steps.specs.BufferCalls.{has_pair}
 use Rattle.space_steps.proofs.SameBuffers.{buffer_calls_agree}
-use Rattle.flush_calls.specs.Unpinned.{AreTakenOff, is_pinned_by, unpin_if}
-use Rattle.flush_calls.proofs.Marks.{held_chain, held_self}
-use Rattle.flush_calls.proofs.Writing.{book_is, done_if, ends, is_written, writes}
+use Rattle.copy_ends.specs.Unpinned.{AreTakenOff, is_pinned_by, unpin_if}
+use Rattle.copy_ends.proofs.Marks.{held_chain, held_self}
+use Rattle.copy_ends.proofs.Writing.{book_is, ended_if, ends, is_written, writes}
 
 -- whether an item is of the file, and live
 abbrev pub is_pinning : ℕ → RepackCopy → Bool
@@ -37,8 +37,8 @@ writing_pins f c (i ∷ is) e =
     both : (a b : Bool) (s : ItemState) → (a && b) ≡ true → is_writing s ≡ true → (a && is_live_item s) ≡ true
     both true b item.Writing e w = refl
     both true b item.Reading e w = refl
-    both true b item.Done e w = absurd (cc)
     both true b item.Failed e w = absurd (cc)
+    both true b item.Done e w = absurd (cc)
     both true b item.Gone e w = absurd (cc)
     both false b s e w = absurd (cc)
 
@@ -60,26 +60,26 @@ off : (m : Bool) → (m && false) ≡ true → (m && true) ≡ true
 off true e = absurd (cc)
 off false e = absurd (cc)
 
-one_less : (b : Bool) (g d : ℕ) (s : ItemState) (f : ℕ) → is_pinning f (done_if b (record { file = g; copy = d; state = s })) ≡ true → is_pinning f (record { file = g; copy = d; state = s }) ≡ true
-one_less false g d s f e = e
-one_less true g d item.Reading f e = off (g == f) e
-one_less true g d item.Writing f e = off (g == f) e
-one_less true g d item.Done f e = e
-one_less true g d item.Failed f e = e
-one_less true g d item.Gone f e = e
+one_less : (z : ItemState) → is_live_item z ≡ false → (b : Bool) (g d : ℕ) (s : ItemState) (f : ℕ) → is_pinning f (ended_if z b (record { file = g; copy = d; state = s })) ≡ true → is_pinning f (record { file = g; copy = d; state = s }) ≡ true
+one_less z dead false g d s f e = e
+one_less z dead true g d item.Reading f e = off (g == f) (sym (ap (λ (l : Bool). g == f && l) dead) ∙ e)
+one_less z dead true g d item.Writing f e = off (g == f) (sym (ap (λ (l : Bool). g == f && l) dead) ∙ e)
+one_less z dead true g d item.Failed f e = e
+one_less z dead true g d item.Done f e = e
+one_less z dead true g d item.Gone f e = e
 
 -- what pins a file behind the calls for copies pinned it before them
-pub pins_less : (js : List Job) (v u : Repacks) (f k : ℕ) → RepacksAgree u (set_states item.Done (writers v js) v) → is_pinned_by u f k ≡ true → is_pinned_by v f k ≡ true
-pins_less js v u f k call e = by (repack_in v k) (sym (ap (has_item_by (is_pinning f)) (call k ∙ book_is v js k)) ∙ e)
+pub pins_less : (z : ItemState) → is_live_item z ≡ false → (js : List Job) (v u : Repacks) (f k : ℕ) → RepacksAgree u (set_states z (writers v js) v) → is_pinned_by u f k ≡ true → is_pinned_by v f k ≡ true
+pins_less z dead js v u f k call e = by (repack_in v k) (sym (ap (has_item_by (is_pinning f)) (call k ∙ book_is z v js k)) ∙ e)
   where
-    by : (o : Option Repack) → has_item_by (is_pinning f) (option_map (with_items (λ i. done_if (ends v js k i) i)) o) ≡ true → has_item_by (is_pinning f) o ≡ true
+    by : (o : Option Repack) → has_item_by (is_pinning f) (option_map (with_items (λ i. ended_if z (ends v js k i) i)) o) ≡ true → has_item_by (is_pinning f) o ≡ true
     by None e = absurd (cc)
-    by (Some r) e = pinned_less (λ i. done_if (ends v js k i) i) f r.items (λ i. one_less (ends v js k i) i.file i.copy i.state f) e
+    by (Some r) e = pinned_less (λ i. ended_if z (ends v js k i) i) f r.items (λ i. one_less z dead (ends v js k i) i.file i.copy i.state f) e
 
 -- a call for an item of a repack leaves what others pin, and which other files it pins
-pub other_pins : (v u : Repacks) (n f c g k : ℕ) → RepacksAgree u (set_state n f c item.Done v) → (f == g && n == k) ≡ false → is_pinned_by u g k ≡ is_pinned_by v g k
-other_pins v u n f c g k call apart =
-    ap (has_item_by (is_pinning g)) (call k ∙ set_is n k f c item.Done v)
+pub other_pins : (z : ItemState) → (v u : Repacks) (n f c g k : ℕ) → RepacksAgree u (set_state n f c z v) → (f == g && n == k) ≡ false → is_pinned_by u g k ≡ is_pinned_by v g k
+other_pins z v u n f c g k call apart =
+    ap (has_item_by (is_pinning g)) (call k ∙ set_is n k f c z v)
     ∙ elim (bool_cases (n == k)) [
       | inl hit ↦ rw hit (by (repack_in v k) (first (f == g) (n == k) hit apart))
       | inr miss ↦ rw miss refl
@@ -89,7 +89,7 @@ other_pins v u n f c g k call apart =
     first true b e x = absurd (cc)
     first false b e x = refl
 
-    same : (i : RepackCopy) → (f == g) ≡ false → is_pinning g (set_item f c item.Done i) ≡ is_pinning g i
+    same : (i : RepackCopy) → (f == g) ≡ false → is_pinning g (set_item f c z i) ≡ is_pinning g i
     same i other =
         elim (bool_cases (i.file == f && i.copy == c)) [
           | inl hit ↦
@@ -99,15 +99,15 @@ other_pins v u n f c g k call apart =
           | inr miss ↦ rw miss refl
         ]
       where
-        set : (l : Bool) → (i.file == g) ≡ false → is_pinning g (if true && l then record i { state = item.Done } else i) ≡ is_pinning g i
+        set : (l : Bool) → (i.file == g) ≡ false → is_pinning g (if true && l then record i { state = z } else i) ≡ is_pinning g i
         set true e = rw e refl
         set false e = refl
 
-    all : (is : List RepackCopy) → (f == g) ≡ false → list_any (is_pinning g) (map (set_item f c item.Done) is) ≡ list_any (is_pinning g) is
+    all : (is : List RepackCopy) → (f == g) ≡ false → list_any (is_pinning g) (map (set_item f c z) is) ≡ list_any (is_pinning g) is
     all [] other = refl
     all (i ∷ is) other = rw (same i other, all is other) refl
 
-    by : (o : Option Repack) → (f == g) ≡ false → has_item_by (is_pinning g) (option_map (with_items (set_item f c item.Done)) o) ≡ has_item_by (is_pinning g) o
+    by : (o : Option Repack) → (f == g) ≡ false → has_item_by (is_pinning g) (option_map (with_items (set_item f c z)) o) ≡ has_item_by (is_pinning g) o
     by None other = refl
     by (Some r) other = all r.items other
 
@@ -192,13 +192,13 @@ taken_one v u n f a b on others call =
         no true = refl
         no false = refl
 
-set_less : (v u : Repacks) (n f c g k : ℕ) → RepacksAgree u (set_state n f c item.Done v) → is_pinned_by v f n ≡ true → is_pinned_by u g k ≡ true → is_pinned_by v g k ≡ true
-set_less v u n f c g k call on e =
+set_less : (z : ItemState) → (v u : Repacks) (n f c g k : ℕ) → RepacksAgree u (set_state n f c z v) → is_pinned_by v f n ≡ true → is_pinned_by u g k ≡ true → is_pinned_by v g k ≡ true
+set_less z v u n f c g k call on e =
     elim (bool_cases (f == g && n == k)) [
       | inl hit ↦
           (let m = and_parts (f == g) _ hit in
           subst (λ (i : ℕ). is_pinned_by v g i ≡ true) (eqb-true n k m.1) (subst (λ (i : ℕ). is_pinned_by v i n ≡ true) (eqb-true f g m.0) on))
-      | inr miss ↦ sym (other_pins v u n f c g k call miss) ∙ e
+      | inr miss ↦ sym (other_pins z v u n f c g k call miss) ∙ e
     ]
 
 -- what a walk has taken off so far, and that nothing pins more than before
@@ -210,20 +210,20 @@ pub left_none : (v : Repacks) (a : Held) → AreLeft v v a a
 left_none v a = record { taken = taken_none v a; less = λ f id e. e }
 
 -- one repack more is passed, which was WRITING a copy of the file
-pub left_steps : (v u w : Repacks) (n f c : ℕ) (a b d : Held) → AreLeft v u a b → is_pinned_by u f n ≡ true → RepacksAgree w (set_state n f c item.Done u)
+pub left_steps : (z : ItemState) → (v u w : Repacks) (n f c : ℕ) (a b d : Held) → AreLeft v u a b → is_pinned_by u f n ≡ true → RepacksAgree w (set_state n f c z u)
     → HeldAgree d (unpin_if (not (is_pinned_by w f n)) f n b) → AreLeft v w a d
-left_steps v u w n f c a b d so on call held = record {
-  taken = taken_both v u w a b d so.less (λ g k. set_less u w n f c g k call on) so.taken (taken_one u w n f b d on (λ g k miss. other_pins u w n f c g k call miss) held);
-  less = λ g k e. so.less g k (set_less u w n f c g k call on e);
+left_steps z v u w n f c a b d so on call held = record {
+  taken = taken_both v u w a b d so.less (λ g k. set_less z u w n f c g k call on) so.taken (taken_one u w n f b d on (λ g k miss. other_pins z u w n f c g k call miss) held);
+  less = λ g k e. so.less g k (set_less z u w n f c g k call on e);
 }
 
 -- one copy more is passed
-left_more : (js : List Job) (v u w : Repacks) (a b d : Held) → AreLeft v u a b → RepacksAgree w (set_states item.Done (writers u js) u) → AreTakenOff u w b d → AreLeft v w a d
-left_more js v u w a b d so call taken = record {
-  taken = taken_both v u w a b d so.less (λ g k. pins_less js u w g k call) so.taken taken;
-  less = λ g k e. so.less g k (pins_less js u w g k call e);
+left_more : (z : ItemState) → is_live_item z ≡ false → (js : List Job) (v u w : Repacks) (a b d : Held) → AreLeft v u a b → RepacksAgree w (set_states z (writers u js) u) → AreTakenOff u w b d → AreLeft v w a d
+left_more z dead js v u w a b d so call taken = record {
+  taken = taken_both v u w a b d so.less (λ g k. pins_less z dead js u w g k call) so.taken taken;
+  less = λ g k e. so.less g k (pins_less z dead js u w g k call e);
 }
 
 -- one copy more of a loop is passed
-pub left_next : (jobs : List Job) (n : ℕ) (j : Job) (v u w : Repacks) (a b d : Held) → AreLeft v u a b → RepacksAgree w (set_states item.Done (writers u (get_or jobs n j ∷ [])) u) → AreTakenOff u w b d → AreLeft v w a d
-left_next jobs n j v u w a b d so call taken = left_more (get_or jobs n j ∷ []) v u w a b d so call taken
+pub left_next : (z : ItemState) → is_live_item z ≡ false → (jobs : List Job) (n : ℕ) (j : Job) (v u w : Repacks) (a b d : Held) → AreLeft v u a b → RepacksAgree w (set_states z (writers u (get_or jobs n j ∷ [])) u) → AreTakenOff u w b d → AreLeft v w a d
+left_next z dead jobs n j v u w a b d so call taken = left_more z dead (get_or jobs n j ∷ []) v u w a b d so call taken

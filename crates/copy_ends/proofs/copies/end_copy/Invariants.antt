@@ -1,13 +1,13 @@
--- The copy is DONE in all repacks that the loop has passed, and their pins are taken off where they were the last.
+-- The copy has ended in all repacks that the loop has passed, and their pins are taken off where they were the last.
 use Rattle.std.proofs.Common.{◌≡◌, ◌-◌, ℕ, Option, Some, None}
 use Rattle.repack_book.specs.Kept.{NamesAgree, repacks_of}
-use Rattle.flush_calls.proofs.Unpinning.{AreLeft}
-use Rattle.flush_calls.proofs.Writing.{AreDoneBelow}
-use Rattle.flush_calls.proofs.copies.finish_copy.Given as goal
+use Rattle.copy_ends.proofs.Unpinning.{AreLeft}
+use Rattle.copy_ends.proofs.Writing.{AreEndedBelow}
+use Rattle.copy_ends.proofs.copies.end_copy.Given as goal
 
 abbrev pub invariant-loop-next : goal.invariant-loop-next
 invariant-loop-next l = record {
-  done : AreDoneBelow (repacks_of l.initial.repacks) (repacks_of l.repacks) l.job l.next;
+  done : AreEndedBelow l.state (repacks_of l.initial.repacks) (repacks_of l.repacks) l.job l.next;
   names : NamesAgree l.repacks l.initial.repacks;
   left : AreLeft (repacks_of l.initial.repacks) (repacks_of l.repacks) l.initial.buffer.held.value l.buffer.held.value;
   contents : l.buffer.contents ≡ l.initial.buffer.contents;

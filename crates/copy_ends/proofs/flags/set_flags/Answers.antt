@@ -2,8 +2,8 @@ use Rattle.std.proofs.Common.{◌∙◌}
 use Rattle.cta_model.specs.Files.{copies_of_file}
 use Rattle.part_values.specs.JobRows.{book_in}
 use Rattle.part_values.specs.Tapes.{safe_in}
-use Rattle.flush_calls.proofs.Marks.{flag_next}
-use Rattle.flush_calls.proofs.flags.set_flags.Goals as goal
+use Rattle.copy_ends.proofs.Marks.{flag_next}
+use Rattle.copy_ends.proofs.flags.set_flags.Goals as goal
 
 pub loop-job-preserved : goal.loop-job-preserved
 loop-job-preserved c = record {

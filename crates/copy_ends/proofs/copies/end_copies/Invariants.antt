@@ -1,15 +1,14 @@
--- The copies that the loop has passed are DONE in all repacks, and the pins are taken off that were the last.
+-- The copies that the loop has passed have ended in all repacks, and the pins are taken off that were the last.
 use Rattle.std.proofs.Common.{◌≡◌, take}
-use Rattle.cta_model.specs.declared.reports.ItemState.TheVariants as item
 use Rattle.part_values.specs.Repacks.{RepacksAgree, set_states}
 use Rattle.space_steps.specs.BookCalls.{writers}
 use Rattle.repack_book.specs.Kept.{NamesAgree, repacks_of}
-use Rattle.flush_calls.proofs.Unpinning.{AreLeft}
-use Rattle.flush_calls.proofs.copies.finish_copies.Given as goal
+use Rattle.copy_ends.proofs.Unpinning.{AreLeft}
+use Rattle.copy_ends.proofs.copies.end_copies.Given as goal
 
 abbrev pub invariant-loop-job : goal.invariant-loop-job
 invariant-loop-job l = record {
-  finished : RepacksAgree (repacks_of l.repacks) (set_states item.Done (writers (repacks_of l.initial.repacks) (take l.job-index l.jobs)) (repacks_of l.initial.repacks));
+  finished : RepacksAgree (repacks_of l.repacks) (set_states l.state (writers (repacks_of l.initial.repacks) (take l.job-index l.jobs)) (repacks_of l.initial.repacks));
   names : NamesAgree l.repacks l.initial.repacks;
   left : AreLeft (repacks_of l.initial.repacks) (repacks_of l.repacks) l.initial.buffer.held.value l.buffer.held.value;
   contents : l.buffer.contents ≡ l.initial.buffer.contents;

@@ -1,0 +1,2 @@
+pub mod Unpinned
+pub mod Flags
