@@ -1,7 +1,7 @@
 // The archive.
 ghost use Rattle.std.specs.Prelude.{◌≡◌, [], IfOk};
 ghost use Rattle.cta_model.specs.Legal.{IsLegal};
-ghost use Rattle.core_files.specs.Kept.{AreFirstMedia};
+ghost use Rattle.core_files.specs.Kept.{AreFirstMedia, TapesHaveMedia};
 
 use core_files::KeptState;
 use cta_model::{NoMemory, Told};
@@ -58,5 +58,13 @@ impl<M: Told + Drop> Archive<M> {
         ensures { IsLegal self.now.site self.now.history }
     {
         self.state.keeps_history();
+    }
+
+    /// That each tape of the site that no open mount has has a medium, which is true for the history where it tells its records: a law,
+    /// which does nothing when it runs.
+    pub fn keeps_media(&self)
+        ensures { TapesHaveMedia M.told self.now.site self.now.history }
+    {
+        self.state.keeps_media();
     }
 }

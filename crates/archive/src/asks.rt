@@ -12,7 +12,8 @@ ghost use Rattle.served.specs.Served.{is_built, served_answer};
 
 use crate::archive::Archive;
 use blob::Sum256;
-use core_drive::{claim, end, flushed, next, recalled};
+use core_admin::{drive_down, drive_up, retry};
+use core_drive::{claim, end, failed, flushed, next, recalled};
 use core_files::{KeptState, delete, put};
 use core_stage::{cancel, drop_request, release, stage};
 use cta_model::{Answer, Ask, Fault, Hand, Job, NoMemory, Refusal, Told, Who};
@@ -33,7 +34,11 @@ fn is_built(ask: &Ask) -> bool
         Ask::Claim { .. } => true,
         Ask::Flushed { .. } => true,
         Ask::Recalled { .. } => true,
+        Ask::Failed { .. } => true,
         Ask::End { .. } => true,
+        Ask::DriveUp { .. } => true,
+        Ask::DriveDown { .. } => true,
+        Ask::Retry { .. } => true,
         _ => false,
     }
 }
@@ -136,7 +141,16 @@ fn served<M: Told + Drop>(
         Ask::Claim { mount } => claim(state, at, mount),
         Ask::Flushed { mount, items } => flushed(state, at, mount, items),
         Ask::Recalled { mount, job } => recalled_with(state, at, mount, job, hand),
+        Ask::Failed {
+            mount,
+            fault,
+            charged,
+            returned,
+        } => failed(state, at, mount, fault, charged, returned),
         Ask::End { mount, fault } => end_with(state, at, mount, fault, hand),
+        Ask::DriveUp { who, drive } => drive_up(state, at, who, drive),
+        Ask::DriveDown { who, drive } => drive_down(state, at, who, drive),
+        Ask::Retry { who, paths } => retry(state, at, who, paths),
         _ => unreachable!(),
     }
 }

@@ -6,6 +6,7 @@ ghost use Rattle.cta_model.specs.Legal.{greatest_moment};
 ghost use Rattle.served.specs.Served.{served_look};
 
 use crate::archive::Archive;
+use core_admin::failed_list;
 use core_drive::{queues, tape_info};
 use core_files::{archive_info, fetch};
 use core_stage::stage_info;
@@ -29,7 +30,7 @@ impl<M: Told + Drop> Archive<M> {
             Look::Queues => queues(&self.state),
             Look::StageInfo { id } => stage_info(&self.state, *id),
             Look::RepackInfo { .. } => Ok((Answer::Refused(Refusal::NotBuilt), Hand::Nothing)),
-            Look::FailedList => Ok((Answer::Refused(Refusal::NotBuilt), Hand::Nothing)),
+            Look::FailedList => failed_list(&self.state),
         }
     }
 }

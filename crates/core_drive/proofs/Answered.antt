@@ -1,5 +1,5 @@
 -- What asks of drives are answered, by the tests of their refusals.
-use Rattle.std.proofs.Common.{◌≡◌, ℕ, ◌<◌, arith, length, List, [], ◌∷◌, Bool, true, false, refl}
+use Rattle.std.proofs.Common.{◌≡◌, ℕ, ◌<◌, arith, length, List, [], ◌∷◌, ◌++◌, Bool, true, false, refl}
 use Rattle.std.specs.Prelude.{Option, ◌&&◌, nat_le}
 use Rattle.blob.specs.Records.{TapeRecords}
 use Rattle.cta_site.specs.declared.site.Site.{Site}
@@ -30,6 +30,12 @@ recall_refused site h t m job known = rw known refl
 pub recall_accepted : (site : Site) (h : History) (t m : ℕ) (job : Job) → is_known h m (job ∷ []) ≡ true → is_accepted (answer_of site h t (ask.Recalled m job)) ≡ true
 recall_accepted site h t m job known = rw known refl
 
+pub fail_refused : (site : Site) (h : History) (t m : ℕ) (fault : Fault) (charged returned : List Job) → is_known h m (charged ++ returned) ≡ false → answer.Refused refusal.Unknown ≡ answer_of site h t (ask.Failed m fault (rows charged) (rows returned))
+fail_refused site h t m fault charged returned known = rw known refl
+
+pub fail_accepted : (site : Site) (h : History) (t m : ℕ) (fault : Fault) (charged returned : List Job) → is_known h m (charged ++ returned) ≡ true → is_accepted (answer_of site h t (ask.Failed m fault (rows charged) (rows returned))) ≡ true
+fail_accepted site h t m fault charged returned known = rw known refl
+
 pub end_refused : (site : Site) (h : History) (t m : ℕ) (fault : Option Fault) → (is_open h m && is_empty (claimed_items h m)) ≡ false → answer.Refused refusal.Unknown ≡ answer_of site h t (ask.End m fault)
 end_refused site h t m fault may = rw may refl
 
@@ -56,6 +62,10 @@ flush_hand told h later m items a in_hand false is = absurd (cc)
 pub recall_hand : {M : Type 0} (told : M → Option TapeRecords) (h later : History) (m : ℕ) (job : Job) (a : Answer) (in_hand : Hand M) (accepted : Bool) → accepted ≡ true → HandBack told accepted h later (ask.Recalled m job) a in_hand hand.Nothing
 recall_hand told h later m job a in_hand true is = tt
 recall_hand told h later m job a in_hand false is = absurd (cc)
+
+pub fail_hand : {M : Type 0} (told : M → Option TapeRecords) (h later : History) (m : ℕ) (fault : Fault) (charged returned : Listed Job) (a : Answer) (in_hand : Hand M) (accepted : Bool) → accepted ≡ true → HandBack told accepted h later (ask.Failed m fault charged returned) a in_hand hand.Nothing
+fail_hand told h later m fault charged returned a in_hand true is = tt
+fail_hand told h later m fault charged returned a in_hand false is = absurd (cc)
 
 pub end_hand : {M : Type 0} (told : M → Option TapeRecords) (h later : History) (m : ℕ) (fault : Option Fault) (a : Answer) (in_hand : Hand M) (accepted : Bool) → accepted ≡ true → HandBack told accepted h later (ask.End m fault) a in_hand hand.Nothing
 end_hand told h later m fault a in_hand true is = tt

@@ -1,9 +1,10 @@
-//! The asks of drives' sessions: Next, Claim, Flushed, Recalled and End, refused in their order or carried out; and the looks at tapes
+//! The asks of drives' sessions: Next, Claim, Flushed, Recalled, Failed and End, refused in their order or carried out; and the looks at tapes
 //! and queues, TapeInfo and Queues.
 #![tactic(auto)]
 
 mod claims;
 mod ends;
+mod faults;
 mod flushes;
 mod looks;
 mod nexts;
@@ -12,6 +13,7 @@ mod recalls;
 
 pub use claims::claim;
 pub use ends::end;
+pub use faults::failed;
 pub use flushes::flushed;
 pub use looks::{queues, tape_info};
 pub use nexts::next;

@@ -254,10 +254,13 @@ all_told site h p m (j ∷ js) kept =
     ap (λ (b : Bool). b && list_all (claims_told p.book.value m) js) (ap (is_number m) (kept.stand.jobs.book.claimer j))
     ∙ ap (λ (b : Bool). is_number m (claimer_of h j) && b) (all_told site h p m js kept)
 
+pub jobs_claimed : (site : Site) (h : History) (p : KeptParts) (m : ℕ) (js : List Job) → IsLegal site h → ArePartsKept site h p → is_open h m ≡ true → list_all (claims_told p.book.value m) js ≡ claims_all h m js
+jobs_claimed site h p m js legal kept on = all_told site h p m js kept ∙ sym (claims_all_by site h legal m js on)
+
 pub claims_is : (site : Site) (h : History) (p : KeptParts) (m : ℕ) (items : List Item) → IsLegal site h → ArePartsKept site h p → is_open h m ≡ true
     → list_all (λ (i : Item). claims_told p.book.value m i.job) items ≡ claims_all h m (item_jobs items)
 claims_is site h p m items legal kept on =
-    all_jobs (claims_told p.book.value m) items ∙ all_told site h p m (item_jobs items) kept ∙ sym (claims_all_by site h legal m (item_jobs items) on)
+    all_jobs (claims_told p.book.value m) items ∙ jobs_claimed site h p m (item_jobs items) legal kept on
 
 twice_last : ClaimsNoJobTwice → (site : Site) (h : History) (m : ℕ) (items : List Item) (o : Option (List Item)) → IsLegal site h → last_batch h m ≡ o → is_last_batch o items ≡ true → names_twice (item_jobs items) ≡ false
 twice_last law site h m items None legal is e = absurd (cc)

@@ -9,3 +9,7 @@ pub mod Reported
 mod Requested
 mod ToRead
 pub mod Recalled
+mod NamedTwice
+mod KnownJobs
+mod Shelved
+mod FailedTold

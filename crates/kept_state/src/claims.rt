@@ -14,6 +14,7 @@ ghost use Rattle.entry_steps.specs.Sessions.{claims_told};
 ghost use Rattle.kept_state.specs.Contents.{AreInBuffer};
 
 use crate::state::KeptState;
+use crate::twice::is_same_job;
 use batches::{taken_jobs, written_batch};
 use blob::Told;
 use cta_laws::{
@@ -28,9 +29,7 @@ use part_values::OpenMount;
 fn is_same_item(a: &Item, b: &Item) -> bool
     ensures { result ≡ same_item a.now b.now }
 {
-    a.job.birth == b.job.birth
-        && a.job.file == b.job.file
-        && a.job.copy == b.job.copy
+    is_same_job(a.job, b.job)
         && a.fseq == b.fseq
         && a.sum.len == b.sum.len
         && a.sum.digest == b.sum.digest

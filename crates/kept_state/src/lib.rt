@@ -2,9 +2,13 @@
 //! definitions say of the history, and carries out asks that are accepted.
 #![tactic(auto)]
 
+mod admin;
 mod calls;
+mod charges;
 mod claims;
 mod contents;
+mod failures;
+mod faults;
 mod files;
 mod mounts;
 mod reads;
@@ -14,5 +18,6 @@ mod requests;
 mod sessions;
 mod stages;
 mod state;
+mod twice;
 
 pub use state::KeptState;

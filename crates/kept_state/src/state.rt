@@ -2,7 +2,7 @@
 ghost use Rattle.std.specs.Prelude.{◌≡◌, [], IfOk};
 ghost use Rattle.cta_model.specs.History.{moment_of, weight_of};
 ghost use Rattle.cta_model.specs.Legal.{IsLegal};
-ghost use Rattle.kept_state.specs.Kept.{AreFirstMedia};
+ghost use Rattle.kept_state.specs.Kept.{AreFirstMedia, TapesHaveMedia};
 
 use blob::Told;
 use cta_site::{NoMemory, ValidSite};
@@ -73,5 +73,14 @@ impl<M: Told + Drop> KeptState<M> {
         ensures { IsLegal self.now.site self.now.history }
     {
         let _history = &self.history;
+    }
+
+    /// That each tape of the site that no open mount has has a medium, which is true for the history where it tells its records: a law,
+    /// which does nothing when it runs.
+    pub fn keeps_media(&self)
+        ensures { TapesHaveMedia M.told self.now.site self.now.history }
+    {
+        let _history = &self.history;
+        self.shelf.keeps_media();
     }
 }

@@ -1,6 +1,6 @@
 // The shelf.
 ghost use Rattle.std.specs.Prelude.{ℕ, ◌≡◌, ◌<◌, ◌==◌, Some, None, if◌then◌else◌, length, map, option_map, IfOk};
-ghost use Rattle.media_shelf.specs.Places.{medium_at};
+ghost use Rattle.media_shelf.specs.Places.{AreThere, medium_at};
 
 use blob::Told;
 use cta_site::NoMemory;
@@ -82,5 +82,12 @@ impl<M: Told> MediaShelf<M> {
         ensures many { length self.new ≡ length self.old }
     {
         put_in(self.places.as_mut_slice(), tape as usize, medium);
+    }
+
+    /// That each place that isn't empty has a medium, which tells what the place says: a law, which does nothing when it runs.
+    pub fn keeps_media(&self)
+        ensures { AreThere M.told self.now }
+    {
+        let _places = &self.places;
     }
 }

@@ -23,7 +23,11 @@ is_built (ask.Next d) = true
 is_built (ask.Claim m) = true
 is_built (ask.Flushed m items) = true
 is_built (ask.Recalled m job) = true
+is_built (ask.Failed m fault charged returned) = true
 is_built (ask.End m fault) = true
+is_built (ask.DriveUp who d) = true
+is_built (ask.DriveDown who d) = true
+is_built (ask.Retry who paths) = true
 is_built _ = false
 
 -- what is served: the answer of the sequential archive where the ask is built, and otherwise the refusal NotBuilt, before every other
@@ -35,6 +39,7 @@ abbrev pub is_built_look : Look → Bool
 is_built_look (look.Fetch path) = true
 is_built_look (look.StageInfo id) = true
 is_built_look (look.ArchiveInfo paths) = true
+is_built_look look.FailedList = true
 is_built_look (look.TapeInfo v) = true
 is_built_look look.Queues = true
 is_built_look _ = false

@@ -1,5 +1,5 @@
 // Laws.
-ghost use Rattle.served.specs.Laws.{OthersAreRefused, ServedIsAnswered};
+ghost use Rattle.served.specs.Laws.{OthersAreRefused, ServedIsAnswered, SessionsAreServed};
 
 /// An ask that is served has the answer of the sequential archive. A law, which does nothing when it runs.
 pub fn served_is_answered()
@@ -9,4 +9,9 @@ pub fn served_is_answered()
 /// Any other ask is refused with NotBuilt. A law, which does nothing when it runs.
 pub fn others_are_refused()
     ensures { OthersAreRefused }
+{}
+
+/// What a drive's session asks is served. A law, which does nothing when it runs.
+pub fn sessions_are_served()
+    ensures { SessionsAreServed }
 {}

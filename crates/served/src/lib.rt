@@ -4,4 +4,4 @@
 
 mod laws;
 
-pub use laws::{others_are_refused, served_is_answered};
+pub use laws::{others_are_refused, served_is_answered, sessions_are_served};
