@@ -18,7 +18,6 @@ pub(crate) fn number(status: Status) -> u8
         Status::NoMemory => 7,
         Status::TooLong => 8,
         Status::ListenFault => 9,
-        Status::NotBuilt { .. } => 11,
     }
 }
 
@@ -36,6 +35,5 @@ pub(crate) fn complain(rt: &HostRuntime, status: Status) {
         Status::NoMemory => eprintln!(rt; "cta: no memory"),
         Status::TooLong => eprintln!(rt; "cta: script too long"),
         Status::ListenFault => eprintln!(rt; "cta: listen fault"),
-        Status::NotBuilt { offset } => eprintln!(rt; "cta: not built at {offset}"),
     };
 }

@@ -7,6 +7,7 @@ use Rattle.cta_site.specs.Lookups.{drive_name}
 use Rattle.media.specs.declared.planned.Planned.{Planned}
 use Rattle.media.specs.Counted.{no_counts}
 use Rattle.media.specs.Drives.{DriveView}
+use Rattle.media.specs.Memory.{alters_none}
 use Rattle.media.specs.Records.{no_records}
 
 -- a site's failure as a planned call of its drive
@@ -21,11 +22,12 @@ planned_for name failures = map planned_of (filter (λ (f : Failure). bytes_eq f
 abbrev pub plan_of : Site → ℕ → List Planned
 plan_of site d = planned_for (drive_name site d) site.failures.items
 
--- a new drive is not loaded, and where it tells its plan it has the site's and made no call
+-- a new drive is not loaded, and where it tells its plan it has the site's and made no call; of a bench that tells it is honest where that plan alters no read
 pub record IsNewDrive (tells : Bool) (site : Site) (d : ℕ) (drive : DriveView) : Type 0 where
   pub unloaded : drive.loaded ≡ false
   pub plan : IfSome drive.plan (λ p. p ≡ record { entries = plan_of site d; made = no_counts })
   pub told : tells ≡ true → IsSome drive.plan
+  pub honest : tells ≡ true → alters_none (plan_of site d) ≡ true → drive.honest ≡ true
 
 -- a new medium has no records where it tells them
 pub record IsNewMedium (tells : Bool) (told : Option TapeRecords) : Type 0 where

@@ -1,7 +1,6 @@
 -- What a session has asked, once it is answered.
 use Rattle.std.proofs.Common.{◌≡◌, ℕ, ◌≤◌, Bool, true, false, inl, inr, List, [], ◌∷◌, ◌++◌, refl, sym, ap, ◌∙◌, subst}
 use Rattle.std.specs.Prelude.{Option, Some, None, not}
-use Rattle.std.proofs.lemmas.Bool.{cases_Bool}
 use Rattle.std.proofs.lemmas.Option.{none-some, same_Some}
 use Rattle.blob.specs.Records.{TapeRecords}
 use Rattle.cta_site.specs.Listed.{Listed, rows}
@@ -23,8 +22,8 @@ use Rattle.cta_model.specs.Bare.{bare_answer, bare_ask}
 use Rattle.cta_model.specs.Hands.{BatchHand, HandBack}
 use Rattle.cta_model.specs.History.{History}
 use Rattle.cta_model.specs.Kept.{Kept, history_after, kept_after}
-use Rattle.cta_model.specs.Legal.{IsFit, IsLegal, greatest_moment, new_entry}
-use Rattle.cta_model.specs.Mounts.{asked_mount, mount_of}
+use Rattle.cta_model.specs.Legal.{IsFit, IsLegal, greatest_moment}
+use Rattle.cta_model.specs.Mounts.{mount_of}
 use Rattle.drive_session.specs.declared.reports.StepLine.{StepLine}
 use Rattle.drive_session.specs.declared.session.Memo.{Memo}
 use Rattle.drive_session.specs.declared.states.Asked.{Asked}
@@ -38,7 +37,8 @@ use Rattle.drive_session.specs.Steps.{is_loaded_in}
 use Rattle.drive_session.specs.Table.{AnswersLeadByPhase, GoesWith, HeldMount, IsBatchHand, Phase, Free, Held, Leaving, Reading, Ready, Writing, claim_phase, line_by, next_phase, phase_after, phase_of}
 use Rattle.served.specs.Served.{is_built, served_answer}
 use Rattle.session_laws.specs.Laws.{AnsweredSessionFits, AsksAreFit, AsksAreKnown}
-use Rattle.replay.specs.Desk.{IsAbout, IsAskedOf}
+use Rattle.replay.specs.Desk.{HasNoMount, IsAbout, IsAskedOf, IsFree, IsIdleFor}
+use Rattle.replay.proofs.Freed.{freed}
 
 -- ---- the room in lists
 
@@ -466,18 +466,40 @@ ask_about told h d s w (ask.Stage who files) q f = absurd f
 ask_about told h d s w (ask.Cancel who id paths) q f = absurd f
 ask_about told h d s w (ask.DropStage who id) q f = absurd f
 ask_about told h d s w (ask.Release who id paths) q f = absurd f
-ask_about told h d s w (ask.Next n) q f = inl refl
-ask_about told h d s w (ask.Claim m) q f = inr (f.mounted.direction, (f.mounted.tape, subst (λ n. IsMountAt h d n f.mounted.direction f.mounted.tape) (sym f.mount) f.rest.at.mount))
-ask_about told h d s w (ask.Flushed m items) q f = inr (f.mounted.direction, (f.mounted.tape, subst (λ n. IsMountAt h d n f.mounted.direction f.mounted.tape) (sym f.mount) f.batch.at.mount))
-ask_about told h d s w (ask.Recalled m job) q f = inr (resolved_about told h d m (job ∷ []) s f.resolved)
-ask_about told h d s w (ask.Failed m fault charged returned) q f = inr (resolved_about told h d m (charged.items ++ returned.items) s f.resolved)
-ask_about told h d s w (ask.End m fault) q f = inr (f.way, (f.tape, f.mount))
+ask_about told h d s w (ask.Next n) q f = (f.drive, inl refl)
+ask_about told h d s w (ask.Claim m) q f = (tt, inr (f.mounted.direction, (f.mounted.tape, subst (λ n. IsMountAt h d n f.mounted.direction f.mounted.tape) (sym f.mount) f.rest.at.mount)))
+ask_about told h d s w (ask.Flushed m items) q f = (tt, inr (f.mounted.direction, (f.mounted.tape, subst (λ n. IsMountAt h d n f.mounted.direction f.mounted.tape) (sym f.mount) f.batch.at.mount)))
+ask_about told h d s w (ask.Recalled m job) q f = (tt, inr (resolved_about told h d m (job ∷ []) s f.resolved))
+ask_about told h d s w (ask.Failed m fault charged returned) q f = (tt, inr (resolved_about told h d m (charged.items ++ returned.items) s f.resolved))
+ask_about told h d s w (ask.End m fault) q f = (tt, inr (f.way, (f.tape, f.mount)))
 ask_about told h d s w (ask.DriveUp who n) q f = absurd f
 ask_about told h d s w (ask.DriveDown who n) q f = absurd f
 ask_about told h d s w (ask.TapeState who v st) q f = absurd f
 ask_about told h d s w (ask.Reclaim who v) q f = absurd f
 ask_about told h d s w (ask.Repack who v) q f = absurd f
 ask_about told h d s w (ask.Retry who paths) q f = absurd f
+
+-- ---- what a session asks is served
+
+ask_served : {M : Type 0} (told : M → Option TapeRecords) (h : History) (d : ℕ) (s : State M) (w : Asked) (k : Ask) (q : Hand M) → FitsAsk told h d s w k q → is_built k ≡ true
+ask_served told h d s w (ask.Put who path sum) q f = absurd f
+ask_served told h d s w (ask.Delete who path) q f = absurd f
+ask_served told h d s w (ask.Stage who files) q f = absurd f
+ask_served told h d s w (ask.Cancel who id paths) q f = absurd f
+ask_served told h d s w (ask.DropStage who id) q f = absurd f
+ask_served told h d s w (ask.Release who id paths) q f = absurd f
+ask_served told h d s w (ask.Next n) q f = refl
+ask_served told h d s w (ask.Claim m) q f = refl
+ask_served told h d s w (ask.Flushed m items) q f = refl
+ask_served told h d s w (ask.Recalled m job) q f = refl
+ask_served told h d s w (ask.Failed m fault charged returned) q f = refl
+ask_served told h d s w (ask.End m fault) q f = refl
+ask_served told h d s w (ask.DriveUp who n) q f = absurd f
+ask_served told h d s w (ask.DriveDown who n) q f = absurd f
+ask_served told h d s w (ask.TapeState who v st) q f = absurd f
+ask_served told h d s w (ask.Reclaim who v) q f = absurd f
+ask_served told h d s w (ask.Repack who v) q f = absurd f
+ask_served told h d s w (ask.Retry who paths) q f = absurd f
 
 -- ---- an ask that was answered
 
@@ -498,13 +520,14 @@ asks_fit told fits kept m k q asking =
 
 module _ {M : Type 0} (told : M → Option TapeRecords) (fits : AsksAreFit told) (knows : AsksAreKnown told) (leads : AnsweredSessionFits told) (by_phase : AnswersLeadByPhase M) where
   pub asked_of : (kept now : Kept) (m m' : Memo M) (t : ℕ) (k : Ask) (q out : Hand M) (a : Answer) (l : StepLine) → IsLegal kept.site kept.history → t ≤ greatest_moment
-      → FitsOpen told kept.site kept.history m.number m.state m.asked k q → is_built (bare_ask k) ≡ true → bare_answer a ≡ served_answer kept.site kept.history t (bare_ask k)
+      → FitsOpen told kept.site kept.history m.number m.state m.asked k q → IsIdleFor kept.history m.number (bare_ask k) → bare_answer a ≡ served_answer kept.site kept.history t (bare_ask k)
       → now ≡ kept_after kept t (bare_ask k) (bare_answer a) → now.site ≡ kept.site → HandBack told (is_accepted (bare_answer a)) kept.history now.history (bare_ask k) (bare_answer a) q out
       → l ≡ line_after m.asked m.state a out → m' ≡ record m { state = state_after m.asked m.state a out; asked = asked.Nothing l } → m.kept ≡ None → is_memory l ≡ false
       → IsAskedOf told kept now m m' t (bare_ask k) l
-  asked_of kept now m m' t k q out a l legal low asking built is keeps site back line memo none memory =
+  asked_of kept now m m' t k q out a l legal low asking idle is keeps site back line memo none memory =
       let asks : FitsAsk told kept.history m.number m.state m.asked (bare_ask k) q = open_bare told kept.history m.number m.state m.asked k q asking.asked in
       let asking' : FitsOpen told kept.site kept.history m.number m.state m.asked (bare_ask k) q = record { known = asking.known; asked = asks } in
+      let built : is_built (bare_ask k) ≡ true = ask_served told kept.history m.number m.state m.asked (bare_ask k) q asks in
       let answered : bare_answer a ≡ answer_of kept.site kept.history t (bare_ask k) = is ∙ served_is kept.site kept.history t (bare_ask k) built in
       let grown : now.history ≡ history_after kept.site kept.history t (bare_ask k) = ap (λ (n : Kept). n.history) keeps ∙ history_same kept t (bare_ask k) (bare_answer a) answered in
       let back' = subst (λ x. HandBack told (is_accepted x) kept.history (history_after kept.site kept.history t (bare_ask k)) (bare_ask k) x q out) answered
@@ -517,17 +540,19 @@ module _ {M : Type 0} (told : M → Option TapeRecords) (fits : AsksAreFit told)
       let phases = by_phase m.asked m.state a out goes in
       let state_is : m'.state ≡ state_after m.asked m.state a out = ap (λ (x : Memo M). x.state) memo in
       record {
-        served = built;
         fit = (fits kept.site kept.history m.number m.state m.asked (bare_ask k) q asking').0;
-        known = λ unknown. knows kept.site kept.history t m.number m.state m.asked (bare_ask k) q asking' (sym (served_is kept.site kept.history t (bare_ask k) built) ∙ unknown);
-        keeps = keeps ∙ ap (kept_after kept t (bare_ask k)) is;
+        known = knows kept.site kept.history t m.number m.state m.asked (bare_ask k) q asking';
+        keeps = keeps ∙ ap (kept_after kept t (bare_ask k)) answered;
         number = ap (λ (x : Memo M). x.number) memo;
         kept = ap (λ (x : Memo M). x.kept) memo ∙ none;
         rest = ap (λ (x : Memo M). is_asking x.asked) memo;
         fits = rw (site, grown, memo) fits';
-        line = line ∙ phases.line ∙ sym (line_by-bare m.asked (phase_of m.state) a) ∙ ap (line_by m.asked (phase_of m.state)) is;
-        phase = ap phase_of state_is ∙ phases.phase ∙ sym (phase_after-bare m.asked (phase_of m.state) a) ∙ ap (phase_after m.asked (phase_of m.state)) is;
+        line = line ∙ phases.line ∙ sym (line_by-bare m.asked (phase_of m.state) a) ∙ ap (line_by m.asked (phase_of m.state)) answered;
+        phase = ap phase_of state_is ∙ phases.phase ∙ sym (phase_after-bare m.asked (phase_of m.state) a) ∙ ap (phase_after m.asked (phase_of m.state)) answered;
         loaded = ap is_loaded_in state_is ∙ same_loaded told kept.history m.number m.state m.asked (bare_ask k) q a out asks;
         memory = memory;
         about = ask_about told kept.history m.number m.state m.asked (bare_ask k) q asks;
+        led = (a, (out, line));
+        free = λ f. subst (λ h. HasNoMount h m.number) (sym grown)
+            (freed told kept.site kept.history legal t m.number m.state m.asked (bare_ask k) q out a asks idle answered goes (subst IsFree state_is f));
       }

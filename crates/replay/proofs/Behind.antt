@@ -1,16 +1,16 @@
 -- An ending behind further whole records.
-use Rattle.std.proofs.Common.{◌≡◌, ℕ, ◌+◌, ◌≤◌, inl, inr, List, [], ◌∷◌, ◌++◌, length, sym, ap, ◌∙◌, subst, arith, append_assoc, length-append}
+use Rattle.std.proofs.Common.{◌≡◌, ℕ, ◌+◌, ◌≤◌, inl, inr, List, ◌++◌, length, ap, ◌∙◌, arith, length-append}
 use Rattle.std.proofs.lemmas.List.Concat.{flat_map-append}
 use Rattle.cta_site.specs.declared.site.Site.{Site}
-use Rattle.replay.specs.Steps.{IsUnservedStep, RunState}
+use Rattle.replay.specs.Steps.{RunState}
 use Rattle.replay.specs.Seen.{World}
-use Rattle.replay.specs.Script.{Record, OfDrive, ScriptCut, whole_bytes, spelling}
-use Rattle.replay.specs.Run.{Happening, Stepped}
+use Rattle.replay.specs.Script.{Record, ScriptCut, whole_bytes, spelling}
+use Rattle.replay.specs.Run.{Happening}
 use Rattle.replay.specs.Output.{after}
-use Rattle.replay.specs.Outcome.{Wrote, IsScriptFault, EndsScript, EndsUnserved}
+use Rattle.replay.specs.Outcome.{Wrote, IsScriptFault, EndsScript}
 use Rattle.replay.specs.declared.status.Status.{Status}
-use Rattle.replay.specs.declared.status.Status.TheVariants.{Ok, Usage, Site as SiteRule, Script, ReadFault, WriteFault, NoMemory, TooLong, ListenFault, NotBuilt}
-use Rattle.replay.proofs.Writing.{after-append, wrote_behind, first_behind, front_behind}
+use Rattle.replay.specs.declared.status.Status.TheVariants.{Ok, Usage, Site as SiteRule, Script, ReadFault, WriteFault, NoMemory, TooLong, ListenFault}
+use Rattle.replay.proofs.Writing.{wrote_behind, first_behind, front_behind}
 
 abbrev pub behind : List Record → ScriptCut → ScriptCut
 behind records c = record { whole = records ++ c.whole; tail = c.tail }
@@ -41,25 +41,6 @@ module _ (n k : RunState) (records : List Record) (happened more : List Happenin
   fault_behind offset (inl (at, refused, e)) = let both = length-whole n.site records c.whole in inl (at, refused, omega (arith, h.taken, whole))
   fault_behind offset (inr p) = inr p
 
-  unserved_behind : (offset : ℕ) → EndsUnserved offset k m b c more → EndsUnserved offset n a b (behind records c) (happened ++ more)
-  unserved_behind offset p =
-      let before : length (whole_bytes k.site p.records) ≡ length (whole_bytes n.site p.records) = ap (λ site. length (whole_bytes site p.records)) h.same in
-      let both = length-whole n.site records p.records in
-      record {
-        records = records ++ p.records;
-        drive = p.drive;
-        moment = p.moment;
-        done = p.done;
-        seen = p.seen;
-        first = happened ++ p.first;
-        whole = ap (λ l. records ++ l) p.whole ∙ sym (append_assoc records p.records (OfDrive p.drive p.moment ∷ []));
-        tail = p.tail;
-        parts = ap (λ l. happened ++ l) p.parts ∙ sym (append_assoc happened p.first (Stepped p.drive p.moment p.done p.seen ∷ []));
-        unserved = subst (λ s. IsUnservedStep s p.drive p.done p.seen) (ap (λ j. after j p.first) h.keeps ∙ sym (after-append n happened p.first)) p.unserved;
-        offset_is = omega (arith, h.taken, p.offset_is, before, both);
-        wrote = wrote_behind n k a.out m.out b.out happened p.first h.keeps h.wrote p.wrote;
-      }
-
   pub EndsScript-behind : (status : Status) → EndsScript status k m b c more → EndsScript status n a b (behind records c) (happened ++ more)
   EndsScript-behind Ok p = (p.0, Wrote-behind p.1)
   EndsScript-behind Usage p = p
@@ -69,5 +50,4 @@ module _ (n k : RunState) (records : List Record) (happened more : List Happenin
   EndsScript-behind WriteFault p = let le = h.write_later in (p.0, omega (arith, p.1), front_behind n k a.out m.out b.out happened more h.keeps h.wrote p.2)
   EndsScript-behind NoMemory p = (p.0, first_behind n k a.out m.out b.out happened more h.keeps h.wrote p.1)
   EndsScript-behind TooLong p = (p.0, p.1, Wrote-behind p.2)
-  EndsScript-behind (NotBuilt offset) p = unserved_behind offset p
   EndsScript-behind ListenFault p = p

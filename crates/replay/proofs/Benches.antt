@@ -1,23 +1,23 @@
 -- Drives, sessions and media, as a bench makes them.
-use Rattle.std.proofs.Common.{◌≡◌, ℕ, zero, suc, ◌+◌, ◌≤◌, ◌<◌, ◌⊎◌, inl, inr, Bool, true, false, List, [], ◌∷◌, ◌++◌, length, refl, sym, ap, ◌∙◌, subst, arith, length-append}
+use Rattle.std.proofs.Common.{◌≡◌, ℕ, zero, suc, ◌+◌, ◌<◌, ◌⊎◌, inl, inr, Bool, true, false, List, [], ◌∷◌, ◌++◌, length, refl, sym, ap, ◌∙◌, subst, arith, length-append}
 use Rattle.std.specs.Prelude.{Option, Some, None, IfSome, map, slice_get}
 use Rattle.std.proofs.lemmas.Option.{none-some, same_Some}
 use Rattle.blob.specs.Records.{TapeRecords}
 use Rattle.cta_site.specs.declared.site.Site.{Site}
-use Rattle.cta_model.specs.declared.states.Place.{Place}
-use Rattle.cta_model.specs.Media.{IsTrueMedium, IsTrueWhereTold}
+use Rattle.cta_model.specs.Media.{IsTrueMedium}
 use Rattle.cta_model.specs.Kept.{Kept}
-use Rattle.archive.specs.Kept.{AreFirstMedia}
+use Rattle.archive.specs.Kept.{AreFirstMedia, TapesHaveMedia}
 use Rattle.media.specs.Drives.{DriveView}
 use Rattle.media.specs.Made.{IsNewDrive, IsNewMedium}
 use Rattle.media.specs.Records.{no_records}
 use Rattle.drive_session.specs.declared.session.Memo.{Memo}
 use Rattle.drive_session.specs.declared.states.State.TheVariants as state
 use Rattle.drive_session.specs.Table.{Free}
-use Rattle.replay.specs.Desk.{AreFree, AreManned, Begins, IsManned, desk_of, drive_states, free_memo}
+use Rattle.replay.specs.Desk.{AreFree, AreManned, Begins, HasNoMount, IsManned, desk_of, drive_states, free_memo}
 use Rattle.replay.specs.Outcome.{AreNewDrives}
 use Rattle.replay.specs.Output.{fresh}
-use Rattle.replay.specs.Steps.{DriveState, RunState, begun_with}
+use Rattle.replay.specs.Promises.{AllTapesHaveMedia}
+use Rattle.replay.specs.Steps.{DriveState}
 use Rattle.replay.proofs.Stepping.{length-map}
 
 -- ---- lists by number
@@ -97,7 +97,14 @@ pub first_media : {M : Type 0} (tells : Bool) (site : Site) (told : M → Option
     → Numbered (λ v m. IsNewMedium tells (told m)) (length site.tapes.items) ms → AreFirstMedia told site ms
 first_media tells site told ms n = record { count = n.count_is; each = λ v m is. new_medium_true tells v (told m) (n.each v m is) }
 
+-- an archive that has kept nothing yet has a true medium for each tape
+pub first_shelf : {M : Type 0} (told : M → Option TapeRecords) (kept : Kept) → kept ≡ fresh kept.site → TapesHaveMedia told kept.site kept.history → AllTapesHaveMedia told kept.site []
+first_shelf told kept same shelf v low = subst (TapesHaveMedia told kept.site) (ap (λ (k : Kept). k.history) same) shelf v low refl
+
 -- ---- a desk at its start
+
+none_open : (d : ℕ) → HasNoMount [] d
+none_open d m way v at = let no : false ≡ true = at.still in cc
 
 free_states : {M : Type 0} (ms : List (Memo M)) (vs : List DriveView) → length ms ≡ length vs → ((d : ℕ) (m : Memo M) → slice_get ms d ≡ Some m → m.state ≡ state.Free)
     → drive_states ms vs ≡ map (λ v. record { phase = Free; seen = v }) vs
@@ -113,16 +120,17 @@ module _ {M : Type 0} (told : M → Option TapeRecords) (site : Site) (ms : List
   free_is : (d : ℕ) (m : Memo M) → slice_get ms d ≡ Some m → m.state ≡ state.Free
   free_is d m is = ap (λ (n : Memo M). n.state) (free.each d m is)
 
-  pub starts : (tells : Bool) → AreNewDrives tells site vs → Begins tells site (desk_of (fresh site) ms vs true)
-  starts tells new = record {
+  pub starts : (tells : Bool) → AreNewDrives tells site vs → AllTapesHaveMedia told site [] → Begins told tells site (desk_of (fresh site) ms vs true)
+  starts tells new media = record {
     seen = vs;
     drives = new;
+    media = media;
     run = ap (λ (ds : List DriveState). record { site = site; history = []; drives = ds }) (free_states ms vs (free.count_is ∙ sym new.count) free_is);
     ready = refl;
   }
 
   free_manned : (tells : Bool) (d : ℕ) (v : DriveView) → d < length site.drives.items → IsNewDrive tells site d v → IsManned told site [] d (free_memo d) v
-  free_manned tells d v known new = record { number = refl; kept = refl; rest = refl; fits = record { known = known; state = tt }; loaded = new.unloaded }
+  free_manned tells d v known new = record { number = refl; kept = refl; rest = refl; fits = record { known = known; state = tt }; loaded = new.unloaded; free = λ f. none_open d }
 
   pub all_manned : (tells : Bool) → AreNewDrives tells site vs → AreManned told site [] ms vs
   all_manned tells new = record {

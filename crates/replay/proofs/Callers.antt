@@ -1,5 +1,5 @@
 -- What callers ask is fit for the archive, and so is the content that comes along.
-use Rattle.std.proofs.Common.{◌≡◌, ℕ, List, refl, sym, ap, ◌∙◌}
+use Rattle.std.proofs.Common.{◌≡◌, ℕ, List, sym, ap, ◌∙◌}
 use Rattle.std.specs.Prelude.{Option, Some, None, [], option_map, unwrap_or}
 use Rattle.std.specs.Arc.{arc_value}
 use Rattle.blob.specs.Records.{TapeRecords}
@@ -12,7 +12,7 @@ use Rattle.cta_model.specs.History.{History}
 use Rattle.cta_model.specs.Legal.{IsFit}
 use Rattle.cta_model.specs.declared.asks.Ask.{Ask}
 use Rattle.cta_model.specs.declared.asks.Ask.TheVariants as ask
-use Rattle.tape_routes.specs.Asked.{Asked, Asks}
+use Rattle.tape_routes.specs.Asked.{Asks}
 use Rattle.tape_routes.specs.Callers.{IsCallers}
 use Rattle.tape_routes.specs.Replies.{Content}
 use Rattle.replay.specs.Hands.{hand_with}

@@ -1,10 +1,9 @@
 -- The history that is kept behind a run is legal.
-use Rattle.std.proofs.Common.{◌≡◌, ℕ, ◌≤◌, ◌⊎◌, inl, inr, Bool, true, false, List, [], ◌∷◌, ◌++◌, length, refl, sym, ap, ◌∙◌, subst, arith}
+use Rattle.std.proofs.Common.{ℕ, ◌≤◌, inl, inr, List, [], ◌∷◌, ◌++◌, sym, subst, arith}
 use Rattle.std.specs.Prelude.{Option, None, Some, map}
 use Rattle.std.specs.List.{AllByRecursion}
 use Rattle.std.proofs.lemmas.Bool.{cases_Bool}
 use Rattle.cta_site.specs.declared.site.Site.{Site}
-use Rattle.cta_model.specs.History.{History}
 use Rattle.cta_model.specs.Kept.{Kept, KeepsLegal, kept_after, history_after}
 use Rattle.cta_model.specs.Legal.{IsFit, IsLegal, greatest_moment}
 use Rattle.cta_model.specs.Answers.{answer_of, is_accepted}
@@ -12,24 +11,24 @@ use Rattle.cta_model.specs.declared.asks.Ask.{Ask}
 use Rattle.cta_model.specs.declared.asks.Ask.TheVariants as ask
 use Rattle.drive_session.specs.Table.{Row}
 use Rattle.media.specs.Drives.{DriveView}
-use Rattle.served.specs.Served.{is_built, served_answer}
+use Rattle.served.specs.Served.{served_answer}
 use Rattle.conn.specs.Cut.{Event, Continues, Requests, Refuses}
 use Rattle.tape_routes.specs.Asked.{Asked, Asks, Looks, Replies, asked}
 use Rattle.tape_routes.specs.Answering.{kept_then, request_keeps}
 use Rattle.tape_routes.specs.Callers.{CallersAsk, IsCallers}
-use Rattle.replay.specs.Script.{Record, OfLink, OfDrive, ScriptTail, Ended, InLine, InBytes, BadLine, LongLine, NoLf, IsRecord, IsScriptTail, tail_records}
+use Rattle.replay.specs.Script.{Record, ScriptTail, Ended, InLine, InBytes, BadLine, LongLine, NoLf, IsRecord, IsScriptTail, tail_records}
 use Rattle.replay.specs.Run.{Exchange, ScriptTurn, OnLink, OnDrive, Happening, Answered, Stepped, record_of, answered_on, happenings_of, all_happenings}
-use Rattle.replay.specs.Output.{AskFitly, AsksFit, after, event_keeps, history_of_run, run_behind}
+use Rattle.replay.specs.Output.{AskFitly, AsksFit, after, event_keeps, run_behind}
 use Rattle.replay.specs.Steps.{IsAskFit, IsRowFit, RunState, begun_with, behind_row, kept_by, kept_in, row_at}
 use Rattle.replay.specs.Laws.{KeepsLegalHistories}
 use Rattle.replay.proofs.Running.{AllByRecursion-append, event_keeps-site, kept_after-site, run_behind-site}
 
 -- the history of what is kept is legal
-abbrev IsLawful : Kept → Type 0
+abbrev pub IsLawful : Kept → Type 0
 IsLawful k = IsLegal k.site k.history
 
 -- it happened at a moment in range
-abbrev IsTimely : Happening → Type 0
+abbrev pub IsTimely : Happening → Type 0
 IsTimely (Answered link moment exchange) = moment ≤ greatest_moment
 IsTimely (Stepped drive moment done seen) = moment ≤ greatest_moment
 
@@ -41,18 +40,13 @@ module _ (keeps : KeepsLegal) (callers : CallersAsk) where
         | inr miss ↦ rw miss (rw miss at legal)
       ]
 
-  -- an ask that is fit: where it is served it may be accepted, and else it is refused
-  step_keeps : (k : Kept) (t : ℕ) (asks : Ask) → IsFit k.site k.history asks → t ≤ greatest_moment → IsLawful k → IsLegal k.site (kept_after k t asks (served_answer k.site k.history t asks)).history
+  -- an ask that is fit
+  step_keeps : (k : Kept) (t : ℕ) (asks : Ask) → IsFit k.site k.history asks → t ≤ greatest_moment → IsLawful k → IsLegal k.site (kept_after k t asks (answer_of k.site k.history t asks)).history
   step_keeps k t asks fit low legal =
-      elim (cases_Bool (is_built asks)) [
-        | inl hit ↦ rw hit (told_so (served_keeps k t asks (keeps k.site k.history t asks legal low fit)))
-        | inr miss ↦ rw miss legal
-      ]
-    where
-      told_so : IsLawful (kept_after k t asks (answer_of k.site k.history t asks)) → IsLegal k.site (kept_after k t asks (answer_of k.site k.history t asks)).history
-      told_so is = subst (λ s. IsLegal s (kept_after k t asks (answer_of k.site k.history t asks)).history) (kept_after-site k t asks (answer_of k.site k.history t asks)) is
+      subst (λ s. IsLegal s (kept_after k t asks (answer_of k.site k.history t asks)).history) (kept_after-site k t asks (answer_of k.site k.history t asks))
+      (served_keeps k t asks (keeps k.site k.history t asks legal low fit))
 
-  ask_keeps : (k : Kept) (t : ℕ) (asks : Ask) (sent : Option (List ℕ)) → IsCallers (Asks asks sent) → t ≤ greatest_moment → IsLawful k → IsLawful (kept_after k t asks (served_answer k.site k.history t asks))
+  pub ask_keeps : (k : Kept) (t : ℕ) (asks : Ask) (sent : Option (List ℕ)) → IsCallers (Asks asks sent) → t ≤ greatest_moment → IsLawful k → IsLawful (kept_after k t asks (served_answer k.site k.history t asks))
   ask_keeps k t (ask.Put who path sum) sent fit low legal = served_keeps k t (ask.Put who path sum) (keeps k.site k.history t (ask.Put who path sum) legal low tt)
   ask_keeps k t (ask.Delete who path) sent fit low legal = served_keeps k t (ask.Delete who path) (keeps k.site k.history t (ask.Delete who path) legal low tt)
   ask_keeps k t (ask.Stage who files) sent fit low legal = served_keeps k t (ask.Stage who files) (keeps k.site k.history t (ask.Stage who files) legal low tt)
@@ -65,14 +59,14 @@ module _ (keeps : KeepsLegal) (callers : CallersAsk) where
   ask_keeps k t (ask.Recalled m job) sent fit low legal = absurd fit
   ask_keeps k t (ask.Failed m fault charged returned) sent fit low legal = absurd fit
   ask_keeps k t (ask.End m fault) sent fit low legal = absurd fit
-  ask_keeps k t (ask.DriveUp who d) sent fit low legal = legal
-  ask_keeps k t (ask.DriveDown who d) sent fit low legal = legal
+  ask_keeps k t (ask.DriveUp who d) sent fit low legal = served_keeps k t (ask.DriveUp who d) (keeps k.site k.history t (ask.DriveUp who d) legal low tt)
+  ask_keeps k t (ask.DriveDown who d) sent fit low legal = served_keeps k t (ask.DriveDown who d) (keeps k.site k.history t (ask.DriveDown who d) legal low tt)
   ask_keeps k t (ask.TapeState who v s) sent fit low legal = legal
   ask_keeps k t (ask.Reclaim who v) sent fit low legal = legal
   ask_keeps k t (ask.Repack who v) sent fit low legal = legal
-  ask_keeps k t (ask.Retry who paths) sent fit low legal = legal
+  ask_keeps k t (ask.Retry who paths) sent fit low legal = served_keeps k t (ask.Retry who paths) (keeps k.site k.history t (ask.Retry who paths) legal low tt)
 
-  then_keeps : (k : Kept) (t : ℕ) (x : Asked) → IsCallers x → t ≤ greatest_moment → IsLawful k → IsLawful (kept_then k t x)
+  pub then_keeps : (k : Kept) (t : ℕ) (x : Asked) → IsCallers x → t ≤ greatest_moment → IsLawful k → IsLawful (kept_then k t x)
   unfolding kept_then
   then_keeps k t (Asks ask sent) fit low legal = ask_keeps k t ask sent fit low legal
   then_keeps k t (Looks look) fit low legal = legal
@@ -92,7 +86,7 @@ module _ (keeps : KeepsLegal) (callers : CallersAsk) where
       asks_lawful None fit = legal
       asks_lawful (Some a) fit = step_keeps (kept_in k) moment a fit low legal
 
-  happening_is_lawful : (k : RunState) (h : Happening) → AsksFit k h → IsTimely h → IsLegal k.site k.history → IsLegal k.site (run_behind k h).history
+  pub happening_is_lawful : (k : RunState) (h : Happening) → AsksFit k h → IsTimely h → IsLegal k.site k.history → IsLegal k.site (run_behind k h).history
   happening_is_lawful k (Answered link moment exchange) fit low legal =
       subst (λ s. IsLegal s (event_keeps (kept_in k) moment exchange.event).history) (event_keeps-site (kept_in k) moment exchange.event)
       (event_is_lawful (kept_in k) moment exchange.event low legal)
@@ -114,7 +108,7 @@ turn_timely : (site : Site) (t : ScriptTurn) → IsRecord site (record_of t) →
 turn_timely site (OnLink link moment bytes exchanges) h = exchanges_timely link moment exchanges h.1
 turn_timely site (OnDrive drive moment done seen) h = (h.1, tt)
 
-turns_timely : (site : Site) (ts : List ScriptTurn) → AllByRecursion (IsRecord site) (map record_of ts) → AllByRecursion IsTimely (all_happenings ts)
+pub turns_timely : (site : Site) (ts : List ScriptTurn) → AllByRecursion (IsRecord site) (map record_of ts) → AllByRecursion IsTimely (all_happenings ts)
 turns_timely site [] h = tt
 turns_timely site (t ∷ ts) h = AllByRecursion-append IsTimely (happenings_of t) (all_happenings ts) (turn_timely site t h.0) (turns_timely site ts h.1)
 

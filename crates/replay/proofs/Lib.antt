@@ -28,3 +28,10 @@ mod Stepping
 mod Replied
 mod StepWritten
 pub mod Whole
+mod OneMount
+mod TrueMedia
+mod Returned
+mod FreeRows
+mod ReadLines
+mod Freed
+mod Promised

@@ -1,19 +1,19 @@
 -- What a reading of a record makes of its line.
 use Rattle.std.proofs.Common.{◌≡◌, ◌≢◌, ℕ, ◌≤◌, inl, inr, List, [], ◌∷◌, ◌++◌, length, codes, Option, None, Some, refl, sym, ap, ◌∙◌, subst, arith, append-nil}
-use Rattle.std.specs.Prelude.{slice_get, false}
+use Rattle.std.specs.Prelude.{slice_get, false, true}
+use Rattle.std.proofs.lemmas.Option.{none-some}
+use Rattle.blob.specs.Records.{TapeRecords}
 use Rattle.std.specs.Io.KnownBytes.{Appends}
 use Rattle.outside.specs.Causes.{Rose}
 use Rattle.outside.specs.Streams.{AppendsFront}
-use Rattle.cta_model.specs.declared.asks.Ask.{Ask}
 use Rattle.cta_model.specs.declared.asks.Item.{Item}
 use Rattle.media.specs.Counted.{no_counts}
 use Rattle.media.specs.Drives.{DriveView}
 use Rattle.drive_session.specs.declared.reports.Call.TheVariants as call
 use Rattle.drive_session.specs.declared.reports.Done.{Done}
 use Rattle.drive_session.specs.declared.reports.Done.TheVariants as done
-use Rattle.drive_session.specs.Table.{Phase, Free, Held, HeldMount, Leaving, Reading, Ready, Row, Writing, reading_row, row_of, writing_row}
-use Rattle.replay.specs.Steps.{DriveState, HasServedRow, HasUnservedAsk, HasUnservedRow, IsAskFit, IsRowFit, IsStepOf, IsUnservedStep, RunState, kept_in, row_at, row_in}
-use Rattle.cta_model.specs.Kept.{Kept}
+use Rattle.drive_session.specs.Table.{Phase, Free, Held, HeldMount, Leaving, Reading, Ready, Writing, reading_row, row_of, writing_row}
+use Rattle.replay.specs.Steps.{DriveState, IsRowFit, IsStepOf, RunState, kept_in, line_by_row, row_at, row_in}
 use Rattle.links.specs.Run.{Turn}
 use Rattle.links.specs.declared.links.Links.{Links}
 use Rattle.replay.specs.Seen.{SinkView, ScriptView, World, world, begun}
@@ -21,16 +21,17 @@ use Rattle.cta_site.specs.Bytes.{Without}
 use Rattle.replay.specs.Line.{text, IsDriveStep, IsLine}
 use Rattle.links.specs.Standing.{StandFor}
 use Rattle.replay.specs.Script.{OfDrive, ScriptCut, spelling, cut_bytes, cut_records, IsScriptCut, Ended, InLine, BadLine, LongLine}
-use Rattle.replay.specs.Run.{OnDrive, Stepped, happenings_of, all_happenings}
+use Rattle.replay.specs.Run.{OnDrive, Stepped, all_happenings}
 use Rattle.replay.specs.Output.{run_behind, written_for}
 use Rattle.replay.specs.Intake.{Took, HasStopped}
-use Rattle.replay.specs.Outcome.{AnswersRecord, Wrote, EndsScript, Finishes, Turns, TurnsAfter, stop_status}
+use Rattle.replay.specs.Promises.{HaveMediaBehind, IsSoundStep}
+use Rattle.replay.specs.Outcome.{AnswersRecord, EndsScript, Finishes, Turns, TurnsAfter, stop_status}
 use Rattle.replay.specs.StepRecords.{EndsInStep, HasStepped}
 use Rattle.replay.specs.declared.line.Line.{Line}
 use Rattle.replay.specs.declared.line.Line.TheVariants.{Step}
 use Rattle.replay.specs.declared.intake.Stop.{Stop}
 use Rattle.replay.specs.declared.status.Status.{Status}
-use Rattle.replay.specs.declared.status.Status.TheVariants.{Ok, Script, WriteFault, NoMemory, NotBuilt}
+use Rattle.replay.specs.declared.status.Status.TheVariants.{Ok, Script, WriteFault, NoMemory}
 use Rattle.replay.proofs.Taking.{Took-trans}
 use Rattle.replay.proofs.Writing.{first_none, wrote_none}
 use Rattle.replay.proofs.Ending.{EndsScript-stopped}
@@ -42,7 +43,7 @@ abbrev unheard : Option Done
 unheard = Some (done.NoMemory call.Load)
 
 abbrev unseen : DriveView
-unseen = record { loaded = false; honest = false; faults = no_counts; plan = None }
+unseen = record { loaded = false; honest = true; faults = no_counts; plan = None }
 
 no_writing : (x : HeldMount) (items : List Item) (at : ℕ) (o : Option Item) → writing_row x items at o unheard ≡ None
 no_writing x items at None = refl
@@ -69,48 +70,36 @@ no_row k d = subst (IsRowFit (kept_in k)) (sym (none_in d (slice_get k.drives d)
 
 -- ---- a line that ends the reading
 
-module _ (k : RunState) (before : List Turn) (s s' : ScriptView) (out : SinkView) where
+module _ {M : Type 0} (told : M → Option TapeRecords) (k : RunState) (before : List Turn) (s s' : ScriptView) (out : SinkView) where
   -- nothing was fed
   ends_there : (c : ScriptCut) (status : Status) → Took s s' (cut_bytes k.site c) → IsScriptCut k.site c → cut_records c ≡ [] → EndsScript status k (world s out) (world s' out) c []
-      → Finishes k before (world s out) (world s' out) status
-  ends_there c status took is_cut nothing ends = record { cut = c; is_cut = is_cut; took = took; turns = []; brought = sym nothing; run = tt; fit = tt; ends = ends }
+      → Finishes told k before (world s out) (world s' out) status
+  ends_there c status took is_cut nothing ends = record { cut = c; is_cut = is_cut; took = took; turns = []; brought = sym nothing; run = tt; sound = tt; ends = ends }
 
   pub line_stopped : (part : List ℕ) (why : Stop) → Without 10 part → length part ≤ 256 → Took s s' part → HasStopped why s s'
-      → Finishes k before (world s out) (world s' out) (stop_status why s'.taken)
+      → Finishes told k before (world s out) (world s' out) (stop_status why s'.taken)
   line_stopped part why plain fits took stop =
       let c : ScriptCut = record { whole = []; tail = InLine part } in
       ends_there c (stop_status why s'.taken) took (tt, (plain, fits)) refl (EndsScript-stopped why k (world s out) (world s' out) c [] tt stop (wrote_none k out))
 
   pub line_long : (part : List ℕ) → Without 10 part → length part ≡ 257 → Took s s' part
-      → Finishes k before (world s out) (world s' out) (Script s.taken)
+      → Finishes told k before (world s out) (world s' out) (Script s.taken)
   line_long part plain long took =
       ends_there (record { whole = []; tail = LongLine part }) (Script s.taken) took (tt, (plain, long)) refl (inl (0, refl, omega arith), wrote_none k out)
 
   pub line_bad : (line : List ℕ) → Without 10 line → length line ≤ 256 → ((x : Line) → IsLine k.site x → text k.site x ≢ line) → Took s s' (line ++ 10 ∷ [])
-      → Finishes k before (world s out) (world s' out) (Script s.taken)
+      → Finishes told k before (world s out) (world s' out) (Script s.taken)
   line_bad line plain fits none took =
       ends_there (record { whole = []; tail = BadLine line }) (Script s.taken) took (tt, (plain, fits, none)) refl (inl (0, refl, omega arith), wrote_none k out)
 
   pub line_end : (line : List ℕ) → codes "end" ≡ line → Took s s' (line ++ 10 ∷ [])
-      → Finishes k before (world s out) (world s' out) Ok
+      → Finishes told k before (world s out) (world s' out) Ok
   line_end line e took =
       ends_there (record { whole = []; tail = Ended }) Ok (rw (sym e) at took) (tt, tt) refl (refl, wrote_none k out)
 
 -- ---- a step
 
-served_fit : (k : Kept) (moment : ℕ) (r : Option Row) → HasServedRow k moment r → IsRowFit k r
-served_fit k moment None h = absurd h
-served_fit k moment (Some r) h = h.fit
-
-unserved_ask_fit : (k : Kept) (o : Option Ask) → HasUnservedAsk k o → IsAskFit k.site k.history o
-unserved_ask_fit k None h = absurd h
-unserved_ask_fit k (Some a) h = h.1
-
-unserved_fit : (k : Kept) (r : Option Row) → HasUnservedRow k r → IsRowFit k r
-unserved_fit k None h = absurd h
-unserved_fit k (Some r) h = unserved_ask_fit k r.ask h
-
-module _ (k : RunState) (before : List Turn) (s s' : ScriptView) (line : List ℕ) (drive moment : ℕ) (step : IsDriveStep k.site drive moment) (said : text k.site (Step drive moment) ≡ line)
+module _ {M : Type 0} (told : M → Option TapeRecords) (k : RunState) (before : List Turn) (s s' : ScriptView) (line : List ℕ) (drive moment : ℕ) (step : IsDriveStep k.site drive moment) (said : text k.site (Step drive moment) ≡ line)
     (took : Took s s' (line ++ 10 ∷ [])) where
   abbrev whole_line : List ℕ
   whole_line = spelling k.site (OfDrive drive moment)
@@ -122,37 +111,37 @@ module _ (k : RunState) (before : List Turn) (s s' : ScriptView) (line : List �
   took_cut = subst (Took s s') (sym (append-nil (whole_line ++ []) ∙ append-nil whole_line)) took_line
 
   -- it was carried out, and its line was written
-  pub step_done : (links : Links) (now : RunState) (done : Option Done) (seen : DriveView) (out out' : SinkView) → StandFor links k.site.limits.file before → IsStepOf k drive moment done seen
-      → now ≡ run_behind k (Stepped drive moment done seen) → Appends out.written out'.written (written_for k (Stepped drive moment done seen)) → AnswersRecord links k now before (world s out) (world s' out')
-  step_done links now done seen out out' stands is keeps wrote = record {
+  pub step_done : (links : Links) (now : RunState) (done : Option Done) (seen : DriveView) (out out' : SinkView) → StandFor links k.site.limits.file before → IsStepOf k drive moment done seen → IsSoundStep told k drive moment done seen
+      → now ≡ run_behind k (Stepped drive moment done seen) → Appends out.written out'.written (written_for k (Stepped drive moment done seen)) → AnswersRecord told links k now before (world s out) (world s' out')
+  step_done links now done seen out out' stands is sound keeps wrote = record {
     turn = OnDrive drive moment done seen;
     is_record = step;
     took = took_line;
     stands = subst (StandFor links k.site.limits.file) (sym (append-nil before)) stands;
-    fit = (served_fit (kept_in k) moment (row_at k drive done) is.row, tt);
+    sound = (sound, tt);
     wrote = record { contents = (is, tt); bytes = subst (Appends out.written out'.written) (sym (append-nil (written_for k (Stepped drive moment done seen)))) wrote };
     keeps = keeps;
   }
 
   -- the script ends in it
-  ends_in_step : (done : Option Done) (seen : DriveView) (out out' : SinkView) (status : Status) → IsRowFit (kept_in k) (row_at k drive done)
-      → EndsScript status k (world s out) (world s' out') (record { whole = OfDrive drive moment ∷ []; tail = InLine [] }) (Stepped drive moment done seen ∷ []) → Finishes k before (world s out) (world s' out') status
-  ends_in_step done seen out out' status fit ends = record {
+  ends_in_step : (done : Option Done) (seen : DriveView) (out out' : SinkView) (status : Status) → IsSoundStep told k drive moment done seen
+      → EndsScript status k (world s out) (world s' out') (record { whole = OfDrive drive moment ∷ []; tail = InLine [] }) (Stepped drive moment done seen ∷ []) → Finishes told k before (world s out) (world s' out') status
+  ends_in_step done seen out out' status sound ends = record {
     cut = record { whole = OfDrive drive moment ∷ []; tail = InLine [] };
     is_cut = ((step, tt), (tt, omega arith));
     took = took_cut;
     turns = OnDrive drive moment done seen ∷ [];
     brought = refl;
     run = tt;
-    fit = (fit, tt);
+    sound = (sound, tt);
     ends = ends;
   }
 
   -- it was carried out, and the sink failed before its line was written
-  pub step_broken : (done : Option Done) (seen : DriveView) (out out' : SinkView) → IsStepOf k drive moment done seen → AppendsFront out.written out'.written (written_for k (Stepped drive moment done seen)) → Rose out.faults out'.faults
-      → Finishes k before (world s out) (world s' out') WriteFault
-  step_broken done seen out out' is wrote rose =
-      ends_in_step done seen out out' WriteFault (served_fit (kept_in k) moment (row_at k drive done) is.row) (
+  pub step_broken : (done : Option Done) (seen : DriveView) (out out' : SinkView) → IsStepOf k drive moment done seen → IsSoundStep told k drive moment done seen → AppendsFront out.written out'.written (written_for k (Stepped drive moment done seen)) → Rose out.faults out'.faults
+      → Finishes told k before (world s out) (world s' out') WriteFault
+  step_broken done seen out out' is sound wrote rose =
+      ends_in_step done seen out out' WriteFault sound (
         tt,
         rose,
         record {
@@ -165,72 +154,59 @@ module _ (k : RunState) (before : List Turn) (s s' : ScriptView) (line : List �
       )
 
   -- it was carried out, and memory was wanted for its line
-  pub step_unwritten : (done : Option Done) (seen : DriveView) (out out' : SinkView) → IsStepOf k drive moment done seen → Appends out.written out'.written [] → Finishes k before (world s out) (world s' out') NoMemory
-  step_unwritten done seen out out' is wrote =
-      ends_in_step done seen out out' NoMemory (served_fit (kept_in k) moment (row_at k drive done) is.row)
+  pub step_unwritten : (done : Option Done) (seen : DriveView) (out out' : SinkView) → IsStepOf k drive moment done seen → IsSoundStep told k drive moment done seen → Appends out.written out'.written [] → Finishes told k before (world s out) (world s' out') NoMemory
+  step_unwritten done seen out out' is sound wrote =
+      ends_in_step done seen out out' NoMemory sound
       (tt, record { first = []; later = Stepped drive moment done seen ∷ []; parts = refl; wrote = record { contents = tt; bytes = wrote } })
 
-  -- memory was wanted for it
-  pub step_wanting : (out : SinkView) → Finishes k before (world s out) (world s' out) NoMemory
-  step_wanting out =
-      ends_in_step unheard unseen out out NoMemory (no_row k drive) (tt, first_none k out (Stepped drive moment unheard unseen ∷ []))
+  -- a step that was not made is sound
+  wanted_sound : IsSoundStep told k drive moment unheard unseen
+  wanted_sound = record {
+    fit = no_row k drive;
+    said = λ l is. absurd (none-some l (sym (ap (line_by_row (kept_in k) moment) (none_in drive (slice_get k.drives drive))) ∙ is));
+    media = subst (HaveMediaBehind told (kept_in k) moment) (sym (none_in drive (slice_get k.drives drive))) tt;
+    honest = λ tells honest. (refl, tt);
+  }
 
-  -- its ask is not served
-  pub step_unserved : (done : Option Done) (seen : DriveView) (out : SinkView) → IsUnservedStep k drive done seen → Finishes k before (world s out) (world s' out) (NotBuilt s.taken)
-  step_unserved done seen out is =
-      ends_in_step done seen out out (NotBuilt s.taken) (unserved_fit (kept_in k) (row_at k drive done) is.row)
-      (record {
-        records = [];
-        drive = drive;
-        moment = moment;
-        done = done;
-        seen = seen;
-        first = [];
-        whole = refl;
-        tail = refl;
-        parts = refl;
-        unserved = is;
-        offset_is = omega arith;
-        wrote = wrote_none k out;
-      })
+  -- memory was wanted for it
+  pub step_wanting : (out : SinkView) → Finishes told k before (world s out) (world s' out) NoMemory
+  step_wanting out =
+      ends_in_step unheard unseen out out NoMemory wanted_sound (tt, first_none k out (Stepped drive moment unheard unseen ∷ []))
 
   -- the sink as it was has nothing more
   same_sink : (a b : SinkView) → b ≡ a → Appends a.written b.written []
   same_sink a b same = subst (λ (v : SinkView). Appends a.written v.written []) (sym same) (wrote_none k a).bytes
 
-  ended_in_step : (status : Status) (out out' : SinkView) → EndsInStep status k s.taken drive moment out out' → Finishes k before (world s out) (world s' out') status
-  ended_in_step status out out' (inl (is, x)) =
-      subst (λ (v : SinkView). Finishes k before (world s out) (world s' v) status) (sym x.silent)
-      (subst (Finishes k before (world s out) (world s' out)) (sym is) (step_unserved x.done x.seen out x.is))
-  ended_in_step status out out' (inr (inl (is, same))) =
-      subst (λ (v : SinkView). Finishes k before (world s out) (world s' v) status) (sym same)
-      (subst (Finishes k before (world s out) (world s' out)) (sym is) (step_wanting out))
-  ended_in_step status out out' (inr (inr (inl (is, x)))) =
-      subst (Finishes k before (world s out) (world s' out')) (sym is) (step_broken x.done x.seen out out' x.is x.not_put.0 x.not_put.1)
-  ended_in_step status out out' (inr (inr (inr (is, x)))) =
-      subst (Finishes k before (world s out) (world s' out')) (sym is) (step_unwritten x.done x.seen out out' x.is (same_sink out out' x.not_put))
+  ended_in_step : (status : Status) (out out' : SinkView) → EndsInStep told status k drive moment out out' → Finishes told k before (world s out) (world s' out') status
+  ended_in_step status out out' (inl (is, same)) =
+      subst (λ (v : SinkView). Finishes told k before (world s out) (world s' v) status) (sym same)
+      (subst (Finishes told k before (world s out) (world s' out)) (sym is) (step_wanting out))
+  ended_in_step status out out' (inr (inl (is, x))) =
+      subst (Finishes told k before (world s out) (world s' out')) (sym is) (step_broken x.done x.seen out out' x.is x.sound x.not_put.0 x.not_put.1)
+  ended_in_step status out out' (inr (inr (is, x))) =
+      subst (Finishes told k before (world s out) (world s' out')) (sym is) (step_unwritten x.done x.seen out out' x.is x.sound (same_sink out out' x.not_put))
 
   -- what a step's record makes of its line
-  pub line_step : (r : Option Status) (links : Links) (now : RunState) (out out' : SinkView) → StandFor links k.site.limits.file before → HasStepped r k now s.taken drive moment out out'
-      → Turns r links k now before (world s out) (world s' out')
-  line_step None links now out out' stands x = step_done links now x.done x.seen out out' stands x.is x.keeps x.wrote
+  pub line_step : (r : Option Status) (links : Links) (now : RunState) (out out' : SinkView) → StandFor links k.site.limits.file before → HasStepped told r k now drive moment out out'
+      → Turns told r links k now before (world s out) (world s' out')
+  line_step None links now out out' stands x = step_done links now x.done x.seen out out' stands x.is x.sound x.keeps x.wrote
   line_step (Some status) links now out out' stands x = ended_in_step status out out' x
 
 -- ---- a line that begins a record
 
-pub line_http : (r : Option Status) (links' : Links) (k now : RunState) (before : List Turn) (s m : ScriptView) (out : SinkView) (b : World) (front line : List ℕ) → front ≡ line ++ 10 ∷ [] → Took s m (line ++ 10 ∷ [])
-    → s.faults ≤ m.faults → TurnsAfter r links' k now before front (world m out) b → Turns r links' k now before (world s out) b
-line_http None links' k now before s m out b front line e took later h =
+pub line_http : {M : Type 0} (told : M → Option TapeRecords) (r : Option Status) (links' : Links) (k now : RunState) (before : List Turn) (s m : ScriptView) (out : SinkView) (b : World) (front line : List ℕ) → front ≡ line ++ 10 ∷ [] → Took s m (line ++ 10 ∷ [])
+    → s.faults ≤ m.faults → TurnsAfter told r links' k now before front (world m out) b → Turns told r links' k now before (world s out) b
+line_http told None links' k now before s m out b front line e took later h =
     record {
       turn = h.turn;
       is_record = h.is_record;
       took = subst (Took s b.script) (sym (h.spelled ∙ ap (λ x. x ++ h.rest) e)) (Took-trans took h.took);
       stands = h.stands;
-      fit = h.fit;
+      sound = h.sound;
       wrote = h.wrote;
       keeps = h.keeps;
     }
-line_http (Some status) links' k now before s m out b front line e took later h =
+line_http told (Some status) links' k now before s m out b front line e took later h =
     let length_front : length front ≡ length (line ++ 10 ∷ []) = ap length e in
     let nothing : IsBefore k k [] [] (world s out) (begun (world m out) front) = record {
       keeps = refl;
@@ -247,6 +223,6 @@ line_http (Some status) links' k now before s m out b front line e took later h 
       turns = h.turns;
       brought = h.brought;
       run = h.run;
-      fit = h.fit;
+      sound = h.sound;
       ends = EndsScript-behind k k [] [] (all_happenings h.turns) (world s out) (begun (world m out) front) b h.cut nothing status h.ends;
     }

@@ -1,33 +1,33 @@
 -- Drives with their sessions, where the history grows and where one of them makes a step.
-use Rattle.std.proofs.Common.{◌≡◌, ◌≢◌, ℕ, zero, suc, ◌+◌, ◌<◌, ◌==◌, Bool, true, false, not, inl, inr, List, [], ◌∷◌, ◌++◌, length, refl, sym, ap, ◌∙◌, subst, arith}
+use Rattle.std.proofs.Common.{◌≡◌, ◌≢◌, ℕ, zero, suc, ◌+◌, ◌<◌, ◌==◌, true, false, inl, inr, List, [], ◌∷◌, ◌++◌, length, refl, sym, ap, ◌∙◌, subst, arith}
 use Rattle.std.specs.Prelude.{Option, Some, None, map, slice_get, slice_set}
 use Rattle.std.proofs.lemmas.Bool.{cases_Bool, cases_eq}
-use Rattle.std.proofs.lemmas.Grind.{common_steps}
 use Rattle.std.proofs.lemmas.Option.{none-some, same_Some}
 use Rattle.blob.specs.Records.{TapeRecords}
 use Rattle.cta_site.specs.declared.site.Site.{Site}
 use Rattle.cta_model.specs.declared.asks.Ask.{Ask}
 use Rattle.cta_model.specs.declared.answers.Answer.{Answer}
 use Rattle.cta_model.specs.declared.entries.Entry.{Entry}
-use Rattle.cta_model.specs.Answers.{is_accepted}
+use Rattle.cta_model.specs.Answers.{answer_of, is_accepted}
 use Rattle.cta_model.specs.History.{History, entry_of}
 use Rattle.cta_model.specs.Kept.{Kept, kept_after}
 use Rattle.cta_model.specs.Legal.{IsLegal, new_entry}
 use Rattle.cta_model.specs.declared.asks.Direction.{Direction}
 use Rattle.cta_model.specs.declared.states.Mount.{Mount}
-use Rattle.cta_model.specs.Mounts.{asked_mount, mount_by, mount_of}
+use Rattle.cta_model.specs.Mounts.{asked_mount, mount_by, mount_in, mount_of}
 use Rattle.cta_laws.specs.Mounts.{are_about_others}
 use Rattle.media.specs.Drives.{DriveView}
 use Rattle.drive_session.specs.declared.session.Memo.{Memo}
 use Rattle.drive_session.specs.declared.states.Mounted.{Mounted}
 use Rattle.drive_session.specs.declared.states.State.{State}
 use Rattle.drive_session.specs.declared.states.State.TheVariants as state
-use Rattle.drive_session.specs.Fits.{FitsState, IsAt, IsMountAt}
+use Rattle.drive_session.specs.Fits.{FitsState, IsMountAt}
 use Rattle.drive_session.specs.Table.{phase_of}
 use Rattle.session_laws.specs.Laws.{AreOthers, SessionStays}
-use Rattle.replay.specs.Desk.{AreManned, IsAbout, IsManned, IsRowAbout, drive_states}
-use Rattle.served.specs.Served.{served_answer}
-use Rattle.replay.specs.Steps.{DriveState, kept_by}
+use Rattle.replay.specs.Desk.{AreManned, HasNoMount, IsAbout, IsManned, IsRowAbout, drive_states}
+use Rattle.replay.specs.Steps.{kept_by}
+use Rattle.replay.proofs.Freed.{next_makes}
+use Rattle.replay.proofs.OneMount.{stays_idle}
 
 -- ---- lists
 
@@ -134,13 +134,14 @@ drives_apart h d e m n way way' v v' apart a b same =
 
 module _ {M : Type 0} (told : M → Option TapeRecords) (stays : SessionStays told) (site : Site) where
   -- one that fits stays so through an entry that is about no mount of it
-  pub stays_manned : (newer h : History) (d : ℕ) (m : Memo M) (v : DriveView) → IsLegal site (newer ++ h) → AreApart m.state (λ n. are_about_others n newer ≡ true) → IsManned told site h d m v → IsManned told site (newer ++ h) d m v
-  stays_manned newer h d m v legal apart x = record {
+  pub stays_manned : (newer h : History) (d : ℕ) (m : Memo M) (v : DriveView) → IsLegal site (newer ++ h) → AreApart m.state (λ n. are_about_others n newer ≡ true) → (HasNoMount h d → HasNoMount (newer ++ h) d) → IsManned told site h d m v → IsManned told site (newer ++ h) d m v
+  stays_manned newer h d m v legal apart idle x = record {
     number = x.number;
     kept = x.kept;
     rest = x.rest;
     fits = stays site newer h d m.state legal (others_apart m.state newer apart) x.fits;
     loaded = x.loaded;
+    free = λ f. idle (x.free f);
   }
 
   none_newer : (s : State M) → AreApart s (λ n. are_about_others n [] ≡ true)
@@ -159,9 +160,9 @@ module _ {M : Type 0} (told : M → Option TapeRecords) (stays : SessionStays to
       (λ m x at same. subst (λ n. are_about_others n (e ∷ []) ≡ true) same (about_other x.mount e (λ is. there_apart h d x.mount x.direction x.tape at (sym none ∙ is))))
 
   -- an ask of a caller, accepted or not, leaves each drive manned
-  pub callers_keep : (kept : Kept) (t : ℕ) (k : Ask) (a : Answer) (ms : List (Memo M)) (vs : List DriveView) → kept.site ≡ site → asked_mount k ≡ 0 → IsLegal site (kept_after kept t k a).history
+  pub callers_keep : (kept : Kept) (t : ℕ) (k : Ask) (a : Answer) (ms : List (Memo M)) (vs : List DriveView) → kept.site ≡ site → asked_mount k ≡ 0 → ((x : Mount) → mount_in k a ≡ Some x → ⊥) → IsLegal site (kept_after kept t k a).history
       → AreManned told site kept.history ms vs → AreManned told site (kept_after kept t k a).history ms vs
-  callers_keep kept t k a ms vs same none legal x =
+  callers_keep kept t k a ms vs same none makes_none legal x =
       elim (cases_Bool (is_accepted a)) [
         | inl hit ↦
             let e = new_entry kept.history t k a in
@@ -171,7 +172,7 @@ module _ {M : Type 0} (told : M → Option TapeRecords) (stays : SessionStays to
               drives = x.drives;
               each = λ d m v is seen.
                   let y = x.each d m v is seen in
-                  stays_manned (e ∷ []) kept.history d m v (subst (IsLegal site) grown legal) (callers_apart kept.history d m.state e none y.fits) y;
+                  stays_manned (e ∷ []) kept.history d m v (subst (IsLegal site) grown legal) (callers_apart kept.history d m.state e none y.fits) (stays_idle e kept.history d (λ made is_made same_drive. makes_none made is_made)) y;
             })
         | inr miss ↦
             let stayed : (kept_after kept t k a).history ≡ kept.history = rw miss refl in
@@ -180,8 +181,8 @@ module _ {M : Type 0} (told : M → Option TapeRecords) (stays : SessionStays to
 
   -- an entry of a step is about no mount of another drive
   step_apart : (h : History) (d other : ℕ) (s : State M) (e : Entry) → d ≢ other → IsAbout h d e.ask → FitsState told site h other s → AreApart s (λ n. are_about_others n (e ∷ []) ≡ true)
-  step_apart h d other s e apart (inl none) f = callers_apart h other s e none f
-  step_apart h d other s e apart (inr here) f =
+  step_apart h d other s e apart (next, inl none) f = callers_apart h other s e none f
+  step_apart h d other s e apart (next, inr here) f =
       mount_apart told site h other s (λ n. are_about_others n (e ∷ []) ≡ true) f
       (λ m x there same. subst (λ n. are_about_others n (e ∷ []) ≡ true) same (about_other x.mount e (drives_apart h d other (asked_mount e.ask) x.mount here.0 x.direction here.1.0 x.tape apart here.1.1 there)))
 
@@ -192,7 +193,8 @@ module _ {M : Type 0} (told : M → Option TapeRecords) (stays : SessionStays to
         | inl hit ↦
             let e = new_entry kept.history t k a in
             let grown : (kept_after kept t k a).history ≡ e ∷ kept.history = rw hit refl in
-            rw grown (stays_manned (e ∷ []) kept.history other m v (subst (IsLegal site) grown legal) (step_apart kept.history d other m.state e apart about x.fits) x)
+            rw grown (stays_manned (e ∷ []) kept.history other m v (subst (IsLegal site) grown legal) (step_apart kept.history d other m.state e apart about x.fits)
+            (stays_idle e kept.history other (λ made is_made same_drive. apart (sym (next_makes d k a made about.0 is_made) ∙ same_drive))) x)
         | inr miss ↦
             let stayed : (kept_after kept t k a).history ≡ kept.history = rw miss refl in
             rw stayed x
@@ -201,7 +203,7 @@ module _ {M : Type 0} (told : M → Option TapeRecords) (stays : SessionStays to
   row_stays : (kept : Kept) (t d other : ℕ) (o : Option Ask) (m : Memo M) (v : DriveView) → IsLegal site (kept_by kept t o).history → d ≢ other → IsRowAbout kept.history d o
       → IsManned told site kept.history other m v → IsManned told site (kept_by kept t o).history other m v
   row_stays kept t d other None m v legal apart about x = x
-  row_stays kept t d other (Some k) m v legal apart about x = other_stays kept t d other k (served_answer kept.site kept.history t k) m v legal apart about x
+  row_stays kept t d other (Some k) m v legal apart about x = other_stays kept t d other k (answer_of kept.site kept.history t k) m v legal apart about x
 
   -- a step of one drive leaves all of them manned
   pub step_keeps : (kept now : Kept) (t d : ℕ) (o : Option Ask) (ms : List (Memo M)) (vs : List DriveView) (m : Memo M) (v : DriveView) → now ≡ kept_by kept t o → now.site ≡ site → IsLegal site now.history → IsRowAbout kept.history d o

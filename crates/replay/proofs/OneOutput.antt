@@ -1,10 +1,10 @@
 -- What a script's output hangs on.
-use Rattle.std.proofs.Common.{◌≡◌, ℕ, ◌==◌, true, false, inl, inr, List, [], ◌∷◌, Option, refl, sym, ap, ap₂, ◌∙◌, subst}
+use Rattle.std.proofs.Common.{◌≡◌, ℕ, ◌==◌, true, false, inl, inr, List, [], ◌∷◌, Option, refl, sym, ap, ap₂, ◌∙◌}
 use Rattle.std.specs.Prelude.{map}
-use Rattle.std.specs.List.{flat_map, AllByRecursion}
+use Rattle.std.specs.List.{flat_map}
 use Rattle.std.proofs.lemmas.Bool.{cases_Bool}
 use Rattle.cta_site.specs.declared.site.Site.{Site}
-use Rattle.replay.specs.Steps.{RunState, begun_with, kept_in}
+use Rattle.replay.specs.Steps.{RunState, kept_in}
 use Rattle.conn.specs.Cut.{Event}
 use Rattle.links.specs.Run.{Feed, Turn, feed_of}
 use Rattle.links.specs.Laws.{HasOneRun}

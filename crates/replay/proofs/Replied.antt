@@ -1,13 +1,15 @@
 -- The drives of a desk, where a request is answered.
-use Rattle.std.proofs.Common.{◌≡◌, ℕ, Bool, true, List, refl, sym, ap, ◌∙◌, subst}
-use Rattle.std.specs.Prelude.{Option}
+use Rattle.std.proofs.Common.{◌≡◌, ℕ, Bool, List, refl, sym, ap, ◌∙◌, subst}
+use Rattle.std.specs.Prelude.{Option, Some}
+use Rattle.std.proofs.lemmas.Option.{none-some}
 use Rattle.blob.specs.Records.{TapeRecords}
-use Rattle.cta_site.specs.declared.site.Site.{Site}
 use Rattle.cta_model.specs.declared.asks.Ask.{Ask}
 use Rattle.cta_model.specs.declared.asks.Ask.TheVariants as ask
 use Rattle.cta_model.specs.Kept.{Kept, kept_after}
 use Rattle.cta_model.specs.Legal.{IsLegal}
-use Rattle.cta_model.specs.Mounts.{asked_mount}
+use Rattle.cta_model.specs.declared.answers.Answer.{Answer}
+use Rattle.cta_model.specs.declared.states.Mount.{Mount}
+use Rattle.cta_model.specs.Mounts.{asked_mount, mount_in}
 use Rattle.media.specs.Drives.{DriveView}
 use Rattle.wire_http.specs.declared.request.Request.{Request}
 use Rattle.drive_session.specs.declared.session.Memo.{Memo}
@@ -32,6 +34,11 @@ about_none (ask.Failed m fault charged returned) content f = absurd f
 about_none (ask.End m fault) content f = absurd f
 about_none _ content is = refl
 
+-- and makes none
+makes_none : (k : Ask) (content : Option (List ℕ)) (a : Answer) (x : Mount) → IsCallers (Asks k content) → mount_in k a ≡ Some x → ⊥
+makes_none (ask.Next d) content a x f made = f
+makes_none _ content a x f made = none-some x made
+
 module _ {M : Type 0} (told : M → Option TapeRecords) (stays : SessionStays told) (kept : Kept) (t : ℕ) (ms : List (Memo M)) (vs : List DriveView) where
   then_manned : (now : Kept) (x : Asked) → IsCallers x → now ≡ kept_then kept t x → IsLegal now.site now.history → AreManned told kept.site kept.history ms vs → AreManned told now.site now.history ms vs
   unfolding kept_then
@@ -40,7 +47,7 @@ module _ {M : Type 0} (told : M → Option TapeRecords) (stays : SessionStays to
       let site : (kept_after kept t k a).site ≡ kept.site = kept_after-site kept t k a in
       let kept_legal : IsLegal (kept_after kept t k a).site (kept_after kept t k a).history = subst (λ (n : Kept). IsLegal n.site n.history) is legal in
       let all : AreManned told kept.site (kept_after kept t k a).history ms vs =
-      callers_keep told stays kept.site kept t k a ms vs refl (about_none k content caller) (subst (λ s. IsLegal s (kept_after kept t k a).history) site kept_legal) manned in
+      callers_keep told stays kept.site kept t k a ms vs refl (about_none k content caller) (λ x made. makes_none k content a x caller made) (subst (λ s. IsLegal s (kept_after kept t k a).history) site kept_legal) manned in
       subst (λ (n : Kept). AreManned told n.site n.history ms vs) (sym is) (subst (λ s. AreManned told s (kept_after kept t k a).history ms vs) (sym site) all)
   then_manned now (Looks look) caller is legal manned = subst (λ (n : Kept). AreManned told n.site n.history ms vs) (sym is) manned
   then_manned now (Replies reply) caller is legal manned = subst (λ (n : Kept). AreManned told n.site n.history ms vs) (sym is) manned

@@ -4,6 +4,7 @@ use Rattle.std.specs.Prelude.{map}
 use Rattle.std.specs.List.{AllByRecursion}
 use Rattle.std.proofs.lemmas.List.{map-append}
 use Rattle.std.proofs.lemmas.List.Concat.{flat_map-append}
+use Rattle.blob.specs.Records.{TapeRecords}
 use Rattle.cta_site.specs.declared.site.Site.{Site}
 use Rattle.cta_site.specs.WellFormed.{IsWellFormed}
 use Rattle.cta_model.specs.Kept.{Kept, kept_after}
@@ -16,14 +17,15 @@ use Rattle.conn.specs.Cut.{Event, Continues, Requests, Refuses}
 use Rattle.wire_http.specs.declared.request.Request.{Request}
 use Rattle.tape_routes.specs.Asked.{Asked, Asks, Looks, Replies, asked}
 use Rattle.tape_routes.specs.Answering.{kept_then, request_keeps}
-use Rattle.links.specs.Run.{Turn, IsRunBehind}
+use Rattle.links.specs.Run.{IsRunBehind}
 use Rattle.links.specs.Laws.{RunsFollow}
 use Rattle.links.specs.Standing.{StandFor, LinksStand}
 use Rattle.links.specs.declared.links.Links.{Links}
-use Rattle.replay.specs.Seen.{SourceView, SinkView, World, world, unread}
+use Rattle.replay.specs.Seen.{SourceView, SinkView, World, unread}
 use Rattle.replay.specs.Script.{Record, OfLink, OfDrive, IsRecord, IsScriptCut, InLine, cut_bytes, whole_bytes, tail_bytes, tail_records, spelling}
 use Rattle.replay.specs.Run.{ScriptTurn, Happening, Answered, Stepped, record_of, links_turn, links_turns, happenings_of, all_happenings}
-use Rattle.replay.specs.Output.{AskFitly, after, event_keeps, run_behind}
+use Rattle.replay.specs.Output.{after, event_keeps, run_behind}
+use Rattle.replay.specs.Promises.{AllTapesHaveMedia, AreSound}
 use Rattle.replay.specs.Steps.{RunState, begun_with, behind_row, row_at}
 use Rattle.replay.specs.Intake.{Took}
 use Rattle.replay.specs.Outcome.{AreNewDrives, Wrote, EndsScript, Finishes, AnswersRecord, Replays}
@@ -31,6 +33,7 @@ use Rattle.replay.specs.declared.status.Status.{Status}
 use Rattle.replay.specs.declared.status.Status.TheVariants.{NoMemory}
 use Rattle.replay.proofs.Taking.{Took-trans, Took-none}
 use Rattle.replay.proofs.Writing.{after-behind, wrote_behind, wrote_none, first_none}
+use Rattle.replay.proofs.Returned.{none_kept}
 use Rattle.replay.proofs.Behind.{EndsScript-behind, IsBefore, behind, whole_bytes-append}
 
 -- ---- the site stays
@@ -69,35 +72,35 @@ pub after-site : (k : RunState) (hs : List Happening) → (after k hs).site ≡ 
 after-site k [] = refl
 after-site k (h ∷ hs) = after-site (run_behind k h) hs ∙ run_behind-site k h
 
--- ---- asks of steps
+-- ---- what steps keep
 
-fitly-append : (k : RunState) (xs ys : List Happening) → AskFitly k xs → AskFitly (after k xs) ys → AskFitly k (xs ++ ys)
-fitly-append k [] ys p q = q
-fitly-append k (x ∷ xs) ys p q = (p.0, fitly-append (run_behind k x) xs ys p.1 q)
+sound-append : {M : Type 0} (told : M → Option TapeRecords) (k : RunState) (xs ys : List Happening) → AreSound told k xs → AreSound told (after k xs) ys → AreSound told k (xs ++ ys)
+sound-append told k [] ys p q = q
+sound-append told k (x ∷ xs) ys p q = (p.0, sound-append told (run_behind k x) xs ys p.1 q)
 
-pub fitly_behind : (k n : RunState) (xs ys : List Happening) → n ≡ after k xs → AskFitly k xs → AskFitly n ys → AskFitly k (xs ++ ys)
-fitly_behind k n xs ys e p q = fitly-append k xs ys p (subst (λ j. AskFitly j ys) e q)
+pub sound_behind : {M : Type 0} (told : M → Option TapeRecords) (k n : RunState) (xs ys : List Happening) → n ≡ after k xs → AreSound told k xs → AreSound told n ys → AreSound told k (xs ++ ys)
+sound_behind told k n xs ys e p q = sound-append told k xs ys p (subst (λ j. AreSound told j ys) e q)
 
 -- ---- a run
 
 -- from a to m so many whole records were read and answered, n is kept now, and the links stand for these records
-pub record Ran (links : Links) (k n : RunState) (a m : World) : Type 0 where
+pub record Ran {M : Type 0} (told : M → Option TapeRecords) (links : Links) (k n : RunState) (a m : World) : Type 0 where
   pub turns : List ScriptTurn
   pub each : AllByRecursion (IsRecord k.site) (map record_of turns)
   pub took : Took a.script m.script (whole_bytes k.site (map record_of turns))
   pub stands : StandFor links k.site.limits.file (links_turns turns)
-  pub fit : AskFitly k (all_happenings turns)
+  pub sound : AreSound told k (all_happenings turns)
   pub wrote : Wrote k a.out m.out (all_happenings turns)
   pub keeps : n ≡ after k (all_happenings turns)
 
-pub Ran-none : (links : Links) (k : RunState) (a : World) → LinksStand links k.site.limits.file (λ link. []) (λ link. []) → Ran links k k a a
-Ran-none links k a stands = record { turns = []; each = tt; took = Took-none a.script; stands = (stands, tt); fit = tt; wrote = wrote_none k a.out; keeps = refl }
+pub Ran-none : {M : Type 0} (told : M → Option TapeRecords) (links : Links) (k : RunState) (a : World) → LinksStand links k.site.limits.file (λ link. []) (λ link. []) → Ran told links k k a a
+Ran-none told links k a stands = record { turns = []; each = tt; took = Took-none a.script; stands = (stands, tt); sound = tt; wrote = wrote_none k a.out; keeps = refl }
 
 pub AllByRecursion-append : {X : Type 0} (P : X → Type 0) (xs ys : List X) → AllByRecursion P xs → AllByRecursion P ys → AllByRecursion P (xs ++ ys)
 AllByRecursion-append P [] ys p q = q
 AllByRecursion-append P (x ∷ xs) ys p q = (p.0, AllByRecursion-append P xs ys p.1 q)
 
-pub same_site : {links : Links} {k n : RunState} {a m : World} (r : Ran links k n a m) → n.site ≡ k.site
+pub same_site : {M : Type 0} {told : M → Option TapeRecords} {links : Links} {k n : RunState} {a m : World} (r : Ran told links k n a m) → n.site ≡ k.site
 same_site {links} {k} r = ap (λ (j : RunState). j.site) r.keeps ∙ after-site k (all_happenings r.turns)
 
 records-push : (ts : List ScriptTurn) (t : ScriptTurn) → map record_of (ts ++ t ∷ []) ≡ map record_of ts ++ record_of t ∷ []
@@ -112,8 +115,8 @@ happened-push ts t = flat_map-append happenings_of ts (t ∷ []) ∙ ap (λ l. a
 turns-push : (ts : List ScriptTurn) (t : ScriptTurn) → links_turns (ts ++ t ∷ []) ≡ links_turns ts ++ links_turn t
 turns-push ts t = flat_map-append links_turn ts (t ∷ []) ∙ ap (λ l. links_turns ts ++ l) (append-nil (links_turn t))
 
-pub Ran-more : (links links' : Links) (k n now : RunState) (a m b : World) (r : Ran links k n a m) → AnswersRecord links' n now (links_turns r.turns) m b → Ran links' k now a b
-Ran-more links links' k n now a m b r x =
+pub Ran-more : {M : Type 0} (told : M → Option TapeRecords) (links links' : Links) (k n now : RunState) (a m b : World) (r : Ran told links k n a m) → AnswersRecord told links' n now (links_turns r.turns) m b → Ran told links' k now a b
+Ran-more told links links' k n now a m b r x =
     let site = same_site r in
     let records = map record_of r.turns in
     let bytes = ap (whole_bytes k.site) (records-push r.turns x.turn) ∙ whole_bytes-push k.site records (record_of x.turn) in
@@ -126,7 +129,7 @@ Ran-more links links' k n now a m b r x =
           (AllByRecursion-append (IsRecord k.site) records (record_of x.turn ∷ []) r.each (is_record, tt));
       took = subst (Took a.script b.script) (sym bytes) (Took-trans r.took took);
       stands = subst (StandFor links' k.site.limits.file) (sym (turns-push r.turns x.turn)) (subst (λ s. StandFor links' s.limits.file (links_turns r.turns ++ links_turn x.turn)) site x.stands);
-      fit = subst (AskFitly k) (sym happened) (fitly_behind k n (all_happenings r.turns) (happenings_of x.turn) r.keeps r.fit x.fit);
+      sound = subst (AreSound told k) (sym happened) (sound_behind told k n (all_happenings r.turns) (happenings_of x.turn) r.keeps r.sound x.sound);
       wrote = subst (Wrote k a.out b.out) (sym happened) (wrote_behind k n a.out m.out b.out (all_happenings r.turns) (happenings_of x.turn) r.keeps r.wrote x.wrote);
       keeps = after-behind k n now (all_happenings r.turns) (happenings_of x.turn) r.keeps x.keeps ∙ ap (after k) (sym happened);
     }
@@ -136,9 +139,9 @@ pub spelling_positive : (site : Site) (r : Record) → 0 < length (spelling site
 spelling_positive site (OfLink f) = omega arith
 spelling_positive site (OfDrive drive moment) = omega arith
 
-module _ (follow : RunsFollow) where
-  pub Ran-ends : (links : Links) (k n : RunState) (a m b : World) (status : Status) (r : Ran links k n a m) → a.script.faults ≤ m.script.faults → a.out.faults ≤ m.out.faults
-      → Finishes n (links_turns r.turns) m b status → Finishes k [] a b status
+module _ {M : Type 0} (told : M → Option TapeRecords) (follow : RunsFollow) where
+  pub Ran-ends : (links : Links) (k n : RunState) (a m b : World) (status : Status) (r : Ran told links k n a m) → a.script.faults ≤ m.script.faults → a.out.faults ≤ m.out.faults
+      → Finishes told n (links_turns r.turns) m b status → Finishes told k [] a b status
   Ran-ends links k n a m b status r reads writes f =
       let site = same_site r in
       let records = map record_of r.turns in
@@ -164,14 +167,14 @@ module _ (follow : RunsFollow) where
         brought = map-append record_of r.turns f.turns ∙ ap (λ l. records ++ l) f.brought ∙ sym (append_assoc records f.cut.whole (tail_records f.cut.tail));
         run = subst (IsRunBehind k.site.limits.file []) (sym (flat_map-append links_turn r.turns f.turns))
             ((follow k.site.limits.file [] (links_turns r.turns) (links_turns f.turns)).1 (r.stands.1, run));
-        fit = subst (AskFitly k) (sym (flat_map-append happenings_of r.turns f.turns)) (fitly_behind k n (all_happenings r.turns) (all_happenings f.turns) r.keeps r.fit f.fit);
+        sound = subst (AreSound told k) (sym (flat_map-append happenings_of r.turns f.turns)) (sound_behind told k n (all_happenings r.turns) (all_happenings f.turns) r.keeps r.sound f.sound);
         ends = subst (EndsScript status k a b (behind records f.cut)) (sym (flat_map-append happenings_of r.turns f.turns))
             (EndsScript-behind k n records (all_happenings r.turns) (all_happenings f.turns) a m b f.cut before status f.ends);
       }
 
 -- memory was wanted before a byte was taken
-pub wanted_first : (tells : Bool) (site : Site) (seen : List DriveView) (from : SourceView) (a : SinkView) → IsWellFormed site → AreNewDrives tells site seen → Replays tells NoMemory site from from a a
-wanted_first tells site seen from a valid drives = record {
+pub wanted_first : {M : Type 0} (told : M → Option TapeRecords) (tells : Bool) (site : Site) (seen : List DriveView) (from : SourceView) (a : SinkView) → IsWellFormed site → AreNewDrives tells site seen → AllTapesHaveMedia told site [] → Replays told tells NoMemory site from from a a
+wanted_first told tells site seen from a valid drives media = record {
   valid = valid;
   seen = seen;
   drives = drives;
@@ -184,8 +187,8 @@ wanted_first tells site seen from a valid drives = record {
     turns = [];
     brought = refl;
     run = tt;
-    fit = tt;
+    sound = tt;
     ends = (tt, first_none (begun_with site seen) a []);
   };
-  legal = tt;
+  promises = none_kept told site seen media;
 }

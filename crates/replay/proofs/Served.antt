@@ -7,12 +7,12 @@ use Rattle.cta_site.specs.declared.site.Site.{Site}
 use Rattle.cta_site.specs.Lookups.{class_of}
 use Rattle.cta_site.specs.Paths.{is_path}
 use Rattle.cta_site.specs.Listed.{Listed, rows}
-use Rattle.std.specs.List.{list_all}
+use Rattle.std.specs.List.{list_all, list_any}
 use Rattle.cta_model.specs.History.{History, has_text, moment_of, next_number}
 use Rattle.cta_model.specs.Buffer.{is_resident}
 use Rattle.cta_model.specs.Files.{live_file, sum_of as sum_of_file}
 use Rattle.cta_model.specs.Space.{free_space, evictable_size, evicted_for}
-use Rattle.cta_model.specs.Answers.{is_too_heavy, refuse, request_answer}
+use Rattle.cta_model.specs.Answers.{drive_answer, is_too_heavy, refuse, request_answer, retried_jobs, weighed}
 use Rattle.served.specs.Served.{served_answer, served_look}
 use Rattle.cta_model.specs.Bare.{bare_answer, bare_copy}
 use Rattle.cta_model.specs.Hands.{LookHand}
@@ -38,7 +38,7 @@ use Rattle.cta_model.specs.declared.states.RequestFile.{RequestFile}
 use Rattle.cta_model.specs.Kept.{Kept, kept_after}
 use Rattle.wire_http.specs.declared.request.Request.{Request}
 use Rattle.wire_http.specs.declared.reply.Reply.{Reply}
-use Rattle.wire_http.specs.Reply.{ReplyView, reply_text, reply_view, view_text}
+use Rattle.wire_http.specs.Reply.{reply_text, reply_view, view_text}
 use Rattle.tape_json.specs.Reports.{failed_report}
 use Rattle.tape_routes.specs.Asked.{Asked, Asks, Looks, Replies, asked}
 use Rattle.tape_routes.specs.Callers.{IsCallers}
@@ -62,6 +62,13 @@ plain_request : (o : Option StageRequest) (paths : List (List ℕ)) → IsServed
 unfolding is_plain
 plain_request None paths = refl
 plain_request (Some r) paths = plain_refused refusal.ForeignPath (not (list_all (λ p. has_text p (map (λ (s : RequestFile). s.path) r.files)) paths)) answer.Done refl refl
+
+plain_drive : (site : Site) (h : History) (k : Ask) (d : ℕ) → IsServed (weighed site h k (drive_answer site d))
+unfolding is_plain
+plain_drive site h k d =
+    let told = drive_answer site d in
+    plain_refused refusal.HistoryFull (is_too_heavy site h k told) told refl
+    (plain_refused refusal.NoDrive (nat_le (length site.drives.items) d) answer.Done refl refl)
 
 served_ask : (site : Site) (h : History) (t : ℕ) (k : Ask) (content : Option (List ℕ)) → IsCallers (Asks k content) → IsServed (served_answer site h t k)
 unfolding is_plain
@@ -101,12 +108,16 @@ served_ask site h t (ask.Flushed m items) content fit = absurd fit
 served_ask site h t (ask.Recalled m job) content fit = absurd fit
 served_ask site h t (ask.Failed m fault charged returned) content fit = absurd fit
 served_ask site h t (ask.End m fault) content fit = absurd fit
-served_ask site h t (ask.DriveUp who d) content fit = refl
-served_ask site h t (ask.DriveDown who d) content fit = refl
+served_ask site h t (ask.DriveUp who d) content fit = plain_drive site h (ask.DriveUp who d) d
+served_ask site h t (ask.DriveDown who d) content fit = plain_drive site h (ask.DriveDown who d) d
 served_ask site h t (ask.TapeState who v s) content fit = refl
 served_ask site h t (ask.Reclaim who v) content fit = refl
 served_ask site h t (ask.Repack who v) content fit = refl
-served_ask site h t (ask.Retry who paths) content fit = refl
+served_ask site h t (ask.Retry who paths) content fit =
+    let retried = answer.Retried (rows (retried_jobs site h [] paths.items)) in
+    let named = list_any (λ p. is_none (live_file h p)) paths.items in
+    plain_refused refusal.HistoryFull (is_too_heavy site h (ask.Retry who paths) (refuse refusal.NoFile named retried)) (refuse refusal.NoFile named retried) refl
+    (plain_refused refusal.NoFile named retried refl refl)
 
 -- a caller gets the answer, and the hand that goes out with it has the content that it says
 record IsSeen {M : Type 0} (told : Answer) (out : Hand M) : Type 0 where
@@ -143,6 +154,12 @@ sees_queues infos (hand.Blob blob) = record { callers = refl; fits = λ no. absu
 sees_queues infos (hand.Blobs blobs) = record { callers = refl; fits = λ no. absurd no }
 sees_queues infos (hand.Medium x) = record { callers = refl; fits = λ no. absurd no }
 
+sees_copies : {M : Type 0} (copies : Listed FailedCopy) (out : Hand M) → IsSeen (answer.FailedSeen copies) out
+sees_copies copies hand.Nothing = record { callers = refl; fits = λ is. refl }
+sees_copies copies (hand.Blob blob) = record { callers = refl; fits = λ no. absurd no }
+sees_copies copies (hand.Blobs blobs) = record { callers = refl; fits = λ no. absurd no }
+sees_copies copies (hand.Medium x) = record { callers = refl; fits = λ no. absurd no }
+
 sees_refused : {M : Type 0} (r : Refusal) (out : Hand M) → is_for_callers (answer.Refused r) ≡ true → IsSeen (answer.Refused r) out
 sees_refused r hand.Nothing e = record { callers = e; fits = λ is. refl }
 sees_refused r (hand.Blob blob) e = record { callers = e; fits = λ no. absurd no }
@@ -166,7 +183,7 @@ sees_look site h t (look.Fetch path) out = sees_file h (live_file h path) out
 sees_look site h t (look.StageInfo id) out = sees_request h id (request_of site h id) out
 sees_look site h t (look.ArchiveInfo paths) out = sees_places _ out
 sees_look site h t (look.RepackInfo id) out = sees_refused refusal.NotBuilt out refl
-sees_look site h t look.FailedList out = sees_refused refusal.NotBuilt out refl
+sees_look site h t look.FailedList out = sees_copies _ out
 sees_look site h t (look.TapeInfo v) out = sees_either refusal.NoTape (nat_le (length site.tapes.items) v) (answer.TapeSeen (tape_report site h v)) out refl (sees_tape (tape_report site h v) out)
 sees_look site h t look.Queues out = sees_queues _ out
 

@@ -16,7 +16,7 @@ use Rattle.cta_model.specs.Kept.{Kept}
 use Rattle.replay.specs.Seen.{SourceView}
 use Rattle.replay.specs.SiteFile.{ArchiveMade, IsSiteOf, NoArchive, NoSite, SiteRead, site_fault, site_limit}
 use Rattle.replay.specs.declared.status.Status.{Status}
-use Rattle.replay.specs.declared.status.Status.TheVariants.{Usage, Site as SiteRule, Script, ReadFault, WriteFault, NoMemory, TooLong, ListenFault, NotBuilt}
+use Rattle.replay.specs.declared.status.Status.TheVariants.{Usage, Site as SiteRule, Script, ReadFault, WriteFault, NoMemory, TooLong, ListenFault}
 use Rattle.replay.specs.declared.status.Status.TheVariants as status
 
 no_site : (s : Status) (bytes : List ℕ) (a b : SourceView) → Consumes a.left b.left bytes → IsAtEnd b.left → length bytes ≤ site_limit → NoArchive s bytes → NoSite s a b
@@ -29,7 +29,6 @@ no_site ReadFault bytes a b took at few h = absurd h
 no_site WriteFault bytes a b took at few h = h
 no_site TooLong bytes a b took at few h = h
 no_site ListenFault bytes a b took at few h = h
-no_site (NotBuilt offset) bytes a b took at few h = h
 
 -- an archive made of the whole site file
 pub site_read : (r : Result Kept Status) (bytes : List ℕ) (a b : SourceView) → Consumes a.left b.left bytes → IsAtEnd b.left → length bytes ≤ site_limit → ArchiveMade r bytes → SiteRead r a b

@@ -1,28 +1,32 @@
 -- A step of a desk, by that of its session.
 use Rattle.std.proofs.Common.{◌≡◌, ℕ, zero, suc, ◌<◌, Bool, true, false, List, [], ◌∷◌, length, refl, sym, ap, ◌∙◌, subst}
-use Rattle.std.specs.Prelude.{Option, Some, None, Result, Ok, Err, is_ok, map, slice_get, slice_index_or, slice_set}
+use Rattle.std.specs.Prelude.{IfOk, Option, Some, None, Result, Ok, Err, is_ok, map, slice_get, slice_index_or, slice_set}
 use Rattle.std.proofs.lemmas.Option.{same_Some, slice_get-get_or}
 use Rattle.blob.specs.Records.{TapeRecords}
+use Rattle.cta_site.specs.declared.no_memory.NoMemory.{NoMemory}
 use Rattle.cta_site.specs.declared.site.Site.{Site}
 use Rattle.cta_model.specs.declared.asks.Ask.{Ask}
 use Rattle.cta_model.specs.History.{History}
 use Rattle.cta_model.specs.Kept.{Kept}
 use Rattle.cta_model.specs.Legal.{IsLegal}
+use Rattle.archive.specs.Kept.{TapesHaveMedia}
 use Rattle.media.specs.Drives.{DriveView}
 use Rattle.drive_session.specs.declared.reports.Done.{Done}
 use Rattle.drive_session.specs.declared.reports.StepLine.{StepLine}
 use Rattle.drive_session.specs.declared.session.Memo.{Memo}
+use Rattle.drive_session.specs.Lawful.{IsSaid}
+use Rattle.drive_session.specs.Steps.{NoMismatch}
 use Rattle.drive_session.specs.Table.{Row, phase_of}
 use Rattle.session_laws.specs.Laws.{SessionStays}
-use Rattle.served.specs.Served.{served_answer}
-use Rattle.replay.specs.Desk.{AreManned, DeskView, IsManned, IsStepped, IsTurned, desk_of, drive_states}
+use Rattle.cta_model.specs.Answers.{answer_of}
+use Rattle.replay.specs.Desk.{AreManned, DeskView, IsManned, IsTurn, StepsOn, desk_of, drive_states}
 use Rattle.replay.specs.Output.{run_behind}
+use Rattle.replay.specs.Promises.{AllTapesHaveMedia, AlwaysTell, HaveMediaBehind, IsHonestAt}
 use Rattle.replay.specs.Run.{Stepped}
-use Rattle.replay.specs.Steps.{DriveState, HasAnsweredSo, HasServedRow, HasUnservedRow, RunState, answer_to, behind_row, kept_by, phase_behind, row_at, row_in}
-use Rattle.replay.specs.declared.desk.Halt.{Halt}
-use Rattle.replay.specs.declared.desk.Halt.TheVariants as halt
+use Rattle.replay.specs.Steps.{DriveState, HasAnsweredSo, HasCarriedOut, IsRowFit, RunState, answer_to, behind_row, kept_by, line_at, line_behind, line_by_row, phase_behind, row_at, row_in}
 use Rattle.replay.proofs.Manned.{states_at, states_put, step_keeps}
 use Rattle.replay.proofs.Running.{kept_after-site}
+use Rattle.replay.proofs.TrueMedia.{all_media}
 
 -- the element of an index that is there
 pub indexed : {A : Type 0} (xs : List A) (k : ℕ) (x : A) → k < length xs → x ≡ slice_index_or xs k x → slice_get xs k ≡ Some x
@@ -40,7 +44,7 @@ seen_at f (y ∷ xs) (suc k) x is = seen_at f xs k x is
 
 kept_by-site : (k : Kept) (t : ℕ) (o : Option Ask) → (kept_by k t o).site ≡ k.site
 kept_by-site k t None = refl
-kept_by-site k t (Some a) = kept_after-site k t a (served_answer k.site k.history t a)
+kept_by-site k t (Some a) = kept_after-site k t a (answer_of k.site k.history t a)
 
 pub same_run : (a a' : Site) (h h' : History) (ds ds' : List DriveState) → a ≡ a' → h ≡ h' → ds ≡ ds'
     → ◌≡◌ {A = RunState} (record { site = a; history = h; drives = ds }) (record { site = a'; history = h'; drives = ds' })
@@ -76,7 +80,7 @@ module _ {M : Type 0} (told : M → Option TapeRecords) (stays : SessionStays to
         next = record { site = now.site; history = now.history; drives = drive_states (slice_set ms d m') (slice_set vs d v') }
 
         -- each drive stays manned
-        pub still_manned : IsLegal now.site now.history → (o : Result StepLine Halt) → IsTurned told o kept now m m' v v' d t → is_ok o ≡ true → AreManned told now.site now.history (slice_set ms d m') (slice_set vs d v')
+        pub still_manned : IsLegal now.site now.history → (o : Result StepLine NoMemory) → IfOk o (λ l. IsTurn told kept now m m' v v' d t l) → is_ok o ≡ true → AreManned told now.site now.history (slice_set ms d m') (slice_set vs d v')
         still_manned legal (Ok l) y ok =
             let site : now.site ≡ kept.site = ap (λ (k : Kept). k.site) y.keeps ∙ kept_by-site kept t y.row.ask in
             let kept_legal : IsLegal kept.site now.history = subst (λ s. IsLegal s now.history) site legal in
@@ -94,8 +98,21 @@ module _ {M : Type 0} (told : M → Option TapeRecords) (stays : SessionStays to
             states_put ms vs d m' v' ∙ ap (λ p. slice_set run.drives d (record { phase = p; seen = v' })) phase in
             same_run now.site kept.site now.history (kept_by kept t r.ask).history _ _ site (ap (λ (k : Kept). k.history) keeps_so) drives ∙ ap (behind_row run d t v') (sym at_row)
 
-        stepped_on : (o : Result StepLine Halt) → IsTurned told o kept now m m' v v' d t → IsStepped o run next d t
-        stepped_on (Ok l) y =
+        -- the line of a step is the one that was told
+        line_told : (heard : Option Done) (r : Row) (l l' : StepLine) → row_at run d heard ≡ Some r → l ≡ line_behind r (answer_to kept t r) → line_at run d t heard ≡ Some l' → l ≡ l'
+        line_told heard r l l' at_row is told_so = is ∙ same_Some _ l' (sym (ap (line_by_row kept t) at_row) ∙ told_so)
+
+        -- where the drive is as honest as this, it stays so
+        honest_on : (heard : Option Done) → (AlwaysTell told → v.honest ≡ true → (v'.honest ≡ true) × NoMismatch heard) → AlwaysTell told → IsHonestAt run d → (v'.honest ≡ true) × NoMismatch heard
+        honest_on heard y tells honest = y tells (honest (record { phase = phase_of m.state; seen = v }) state_is)
+
+        media_on : IsLegal now.site now.history → TapesHaveMedia told now.site now.history → (l : StepLine) (y : IsTurn told kept now m m' v v' d t l) → AllTapesHaveMedia told kept.site (kept_by kept t y.row.ask).history
+        media_on legal shelf l y =
+            let all = all_media told now.site now.history legal shelf (slice_set ms d m') (slice_set vs d v') (still_manned legal (Ok l) y refl) in
+            subst (λ s. AllTapesHaveMedia told s (kept_by kept t y.row.ask).history) (kept_by-site kept t y.row.ask) (subst (λ (k : Kept). AllTapesHaveMedia told k.site k.history) y.keeps all)
+
+        stepped_on : IsLegal now.site now.history → TapesHaveMedia told now.site now.history → (o : Result StepLine NoMemory) → IfOk o (λ l. IsTurn told kept now m m' v v' d t l) → IfOk o (λ l. StepsOn told run next d t l)
+        stepped_on legal shelf (Ok l) y =
             let at_row : row_at run d y.done ≡ Some y.row = ap (row_in d y.done) state_is ∙ y.at in
             record {
               done = y.done;
@@ -103,23 +120,19 @@ module _ {M : Type 0} (told : M → Option TapeRecords) (stays : SessionStays to
               row = y.row;
               is = record {
                 device = subst (λ s. HasAnsweredSo s y.done v') (sym state_is) y.heard;
-                row = subst (HasServedRow kept t) (sym at_row) y.served;
+                row = subst (HasCarriedOut kept t) (sym at_row) y.carried;
+              };
+              sound = record {
+                fit = subst (IsRowFit kept) (sym at_row) y.carried.fit;
+                said = λ l' is. subst (λ z. IsSaid z y.done) (line_told y.done y.row l l' at_row y.line is) y.said;
+                media = subst (HaveMediaBehind told kept t) (sym at_row) (media_on legal shelf l y);
+                honest = honest_on y.done y.honest;
               };
               at = at_row;
-              told = y.line;
+              line = y.line;
               keeps = run_is y.done y.row at_row y.keeps y.phase;
             }
-        stepped_on (Err halt.Unserved) y = (
-          y.0,
-          (
-            v',
-            record {
-              device = subst (λ s. HasAnsweredSo s y.0 v') (sym state_is) y.1.0;
-              row = subst (HasUnservedRow kept) (sym (ap (row_in d y.0) state_is)) y.1.1;
-            },
-          ),
-        )
-        stepped_on (Err halt.Wanting) y = tt
+        stepped_on legal shelf (Err e) y = tt
 
-        pub stepped : (o : Result StepLine Halt) → IsTurned told o kept now m m' v v' d t → IsStepped o desk.run next d t
-        stepped o y = subst (λ (k : DeskView). IsStepped o k.run next d t) is (stepped_on o y)
+        pub stepped : IsLegal now.site now.history → TapesHaveMedia told now.site now.history → (o : Result StepLine NoMemory) → IfOk o (λ l. IsTurn told kept now m m' v v' d t l) → IfOk o (λ l. StepsOn told desk.run next d t l)
+        stepped legal shelf o y = subst (λ (k : DeskView). IfOk o (λ l. StepsOn told k.run next d t l)) is (stepped_on legal shelf o y)

@@ -1,5 +1,5 @@
 -- What is written for what happens, one after the other.
-use Rattle.std.proofs.Common.{◌≡◌, ℕ, ◌≤◌, List, [], ◌∷◌, ◌++◌, length, Option, None, Result, Ok, Err, OnOk, refl, sym, ap, ◌∙◌, subst, arith, append-nil, append_assoc}
+use Rattle.std.proofs.Common.{◌≡◌, ℕ, ◌≤◌, List, [], ◌∷◌, ◌++◌, length, Option, Result, Ok, Err, OnOk, refl, sym, ap, ◌∙◌, subst, arith, append-nil, append_assoc}
 use Rattle.std.specs.Prelude.{reverse}
 use Rattle.std.specs.Io.KnownBytes.{Appends}
 use Rattle.std.proofs.KnownBytes.{Appends-trans, Appends-nil}
@@ -12,7 +12,7 @@ use Rattle.conn.specs.declared.next.Next.{Next}
 use Rattle.replay.specs.Seen.{SinkView}
 use Rattle.replay.specs.Run.{Exchange, Happening, Answered, event_of, events_of, bare_exchanges, answered_on}
 use Rattle.replay.specs.Output.{HaveContents, FitsEvent, after, event_keeps, event_text, frame, run_behind, output_on, written_for}
-use Rattle.replay.specs.Outcome.{Wrote, WritesFirst, WritesFront, IsUnwritten, IsWritten, IsFramed, AnswersEvents}
+use Rattle.replay.specs.Outcome.{Wrote, WritesFirst, WritesFront, IsUnwritten, IsFramed, AnswersEvents}
 use Rattle.replay.specs.declared.output.Unwritten.{Unwritten}
 use Rattle.replay.specs.declared.output.Unwritten.TheVariants.{Broken, Wanting}
 

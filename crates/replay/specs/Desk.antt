@@ -1,12 +1,16 @@
 -- The drives of a run, each with its session, as the code keeps them.
-use Rattle.std.specs.Prelude.{◌≡◌, ◌≢◌, ℕ, ◌⊎◌, List, [], ◌∷◌, length, slice_get, Option, Some, None, Result, Ok, Err, Bool, true, false}
+use Rattle.std.specs.Prelude.{◌≡◌, ◌≢◌, ℕ, ◌⊎◌, List, [], ◌∷◌, length, slice_get, Option, Some, None, Bool, true, false}
 use Rattle.blob.specs.Records.{TapeRecords}
 use Rattle.cta_site.specs.declared.site.Site.{Site}
 use Rattle.cta_model.specs.declared.asks.Ask.{Ask}
+use Rattle.cta_model.specs.declared.asks.Ask.TheVariants as ask
+use Rattle.cta_model.specs.declared.answers.Answer.{Answer}
 use Rattle.cta_model.specs.declared.answers.Answer.TheVariants as answer
 use Rattle.cta_model.specs.declared.answers.Refusal.TheVariants as refusal
 use Rattle.cta_model.specs.declared.asks.Direction.{Direction}
+use Rattle.cta_model.specs.declared.hands.Hand.{Hand}
 use Rattle.cta_model.specs.History.{History}
+use Rattle.cta_model.specs.Answers.{answer_of}
 use Rattle.cta_model.specs.Kept.{Kept, kept_after}
 use Rattle.cta_model.specs.Legal.{IsFit}
 use Rattle.cta_model.specs.Mounts.{asked_mount}
@@ -16,18 +20,18 @@ use Rattle.drive_session.specs.declared.reports.StepLine.{StepLine}
 use Rattle.drive_session.specs.declared.reports.StepLine.TheVariants as line
 use Rattle.drive_session.specs.declared.session.Memo.{Memo}
 use Rattle.drive_session.specs.declared.states.Asked.TheVariants as asked
+use Rattle.drive_session.specs.declared.states.State.{State}
 use Rattle.drive_session.specs.declared.states.State.TheVariants as state
-use Rattle.drive_session.specs.Answers.{is_asking, is_memory}
+use Rattle.drive_session.specs.Answers.{is_asking, is_memory, line_after}
 use Rattle.drive_session.specs.Fits.{FitsState, IsMountAt}
-use Rattle.drive_session.specs.Steps.{HasDone, is_loaded_in}
+use Rattle.drive_session.specs.Lawful.{IsSaid}
+use Rattle.drive_session.specs.Steps.{HasDone, NoMismatch, is_loaded_in}
 use Rattle.drive_session.specs.Table.{Row, line_by, phase_after, phase_of, row_of}
-use Rattle.served.specs.Served.{is_built, served_answer}
 use Rattle.replay.specs.Outcome.{AreNewDrives}
 use Rattle.replay.specs.Output.{run_behind}
+use Rattle.replay.specs.Promises.{AllTapesHaveMedia, AlwaysTell, IsSoundStep}
 use Rattle.replay.specs.Run.{Stepped}
-use Rattle.replay.specs.Steps.{DriveState, HasUnservedAsk, HasUnservedRow, IsServedRow, IsStepOf, IsUnservedStep, RunState, answer_to, begun_with, kept_by, kept_in, line_behind, phase_behind, row_at}
-use Rattle.replay.specs.declared.desk.Halt.{Halt}
-use Rattle.replay.specs.declared.desk.Halt.TheVariants as halt
+use Rattle.replay.specs.Steps.{DriveState, IsCarriedOut, IsStepOf, RunState, answer_to, begun_with, kept_by, kept_in, line_behind, phase_behind, row_at}
 
 -- a desk: the run that it has come to, and whether each session is between two steps
 pub record DeskView : Type 0 where
@@ -44,13 +48,23 @@ drive_states (m ∷ ms) (v ∷ vs) = record { phase = phase_of m.state; seen = v
 abbrev pub desk_of : {M : Type 0} → Kept → List (Memo M) → List DriveView → Bool → DeskView
 desk_of kept ms vs ready = record { run = record { site = kept.site; history = kept.history; drives = drive_states ms vs }; ready = ready }
 
--- a session is that of the drive of this number, is between two steps and fits the history, and its drive is loaded as its state says
+-- no mount of the drive is open
+abbrev pub HasNoMount : History → ℕ → Type 0
+HasNoMount h d = (m : ℕ) (way : Direction) (v : ℕ) → IsMountAt h d m way v → ⊥
+
+-- a session holds no mount
+abbrev pub IsFree : {M : Type 0} → State M → Type 0
+IsFree state.Free = Unit {0}
+IsFree _ = ⊥
+
+-- a session is that of the drive of this number, is between two steps and fits the history, its drive is loaded as its state says, and where it holds no mount the drive has none open
 pub record IsManned {M : Type 0} (told : M → Option TapeRecords) (site : Site) (h : History) (d : ℕ) (m : Memo M) (v : DriveView) : Type 0 where
   pub number : m.number ≡ d
   pub kept : m.kept ≡ None
   pub rest : is_asking m.asked ≡ false
   pub fits : FitsState told site h d m.state
   pub loaded : v.loaded ≡ is_loaded_in m.state
+  pub free : IsFree m.state → HasNoMount h d
 
 -- so is each drive of the site
 pub record AreManned {M : Type 0} (told : M → Option TapeRecords) (site : Site) (h : History) (ms : List (Memo M)) (vs : List DriveView) : Type 0 where
@@ -58,64 +72,61 @@ pub record AreManned {M : Type 0} (told : M → Option TapeRecords) (site : Site
   pub drives : length vs ≡ length site.drives.items
   pub each : (d : ℕ) (m : Memo M) (v : DriveView) → slice_get ms d ≡ Some m → slice_get vs d ≡ Some v → IsManned told site h d m v
 
--- a step was carried out, with this line
-pub record StepsOn (old new : RunState) (drive moment : ℕ) (l : StepLine) : Type 0 where
+-- a step was carried out, with this line, and is sound
+pub record StepsOn {M : Type 0} (told : M → Option TapeRecords) (old new : RunState) (drive moment : ℕ) (l : StepLine) : Type 0 where
   pub done : Option Done
   pub seen : DriveView
   pub row : Row
   pub is : IsStepOf old drive moment done seen
+  pub sound : IsSoundStep told old drive moment done seen
   pub at : row_at old drive done ≡ Some row
-  pub told : l ≡ line_behind row (answer_to (kept_in old) moment row)
+  pub line : l ≡ line_behind row (answer_to (kept_in old) moment row)
   pub keeps : new ≡ run_behind old (Stepped drive moment done seen)
 
--- why a step was not carried out: its ask is not served, or memory was wanted
-abbrev pub IsHalted : Halt → RunState → ℕ → Type 0
-IsHalted halt.Unserved old drive = (done : Option Done) × ((seen : DriveView) × IsUnservedStep old drive done seen)
-IsHalted halt.Wanting old drive = Unit {0}
-
--- a step was carried out, or not and why
-abbrev pub IsStepped : Result StepLine Halt → RunState → RunState → ℕ → ℕ → Type 0
-IsStepped (Ok l) old new drive moment = StepsOn old new drive moment l
-IsStepped (Err why) old new drive moment = IsHalted why old drive
-
--- a desk at the start of a run, over drives that a bench has made
-pub record Begins (tells : Bool) (site : Site) (desk : DeskView) : Type 0 where
+-- a desk at the start of a run, over drives and media that a bench has made
+pub record Begins {M : Type 0} (told : M → Option TapeRecords) (tells : Bool) (site : Site) (desk : DeskView) : Type 0 where
   pub seen : List DriveView
   pub drives : AreNewDrives tells site seen
+  pub media : AllTapesHaveMedia told site []
   pub run : desk.run ≡ begun_with site seen
   pub ready : desk.ready ≡ true
 
 -- ---- one session
 
--- an ask is about no mount, or about one that this drive has open
+-- a Next is that of this drive
+abbrev pub IsNextOf : ℕ → Ask → Type 0
+IsNextOf d (ask.Next n) = n ≡ d
+IsNextOf d _ = Unit {0}
+
+-- an ask is about no mount, or about one that this drive has open; a Next is that of this drive
 abbrev pub IsAbout : History → ℕ → Ask → Type 0
-IsAbout h d k = (asked_mount k ≡ 0) ⊎ ((way : Direction) × ((v : ℕ) × IsMountAt h d (asked_mount k) way v))
+IsAbout h d k = IsNextOf d k × ((asked_mount k ≡ 0) ⊎ ((way : Direction) × ((v : ℕ) × IsMountAt h d (asked_mount k) way v)))
+
+-- a drive that asks a Next has no mount open
+abbrev pub IsIdleFor : History → ℕ → Ask → Type 0
+IsIdleFor h d (ask.Next n) = HasNoMount h d
+IsIdleFor h d _ = Unit {0}
 
 abbrev pub IsRowAbout : History → ℕ → Option Ask → Type 0
 IsRowAbout h d None = Unit {0}
 IsRowAbout h d (Some k) = IsAbout h d k
 
--- a session's ask was answered: it is served, the archive has kept this since, the session fits that, and its line and phase are those of the answer
+-- a session's ask was answered as the sequential archive answers it: the archive has kept this since, the session fits that, and its line and phase are those of the answer
 pub record IsAskedOf {M : Type 0} (told : M → Option TapeRecords) (old new : Kept) (m m' : Memo M) (moment : ℕ) (k : Ask) (l : StepLine) : Type 0 where
-  pub served : is_built k ≡ true
   pub fit : IsFit old.site old.history k
-  pub known : served_answer old.site old.history moment k ≢ answer.Refused refusal.Unknown
-  pub keeps : new ≡ kept_after old moment k (served_answer old.site old.history moment k)
+  pub known : answer_of old.site old.history moment k ≢ answer.Refused refusal.Unknown
+  pub keeps : new ≡ kept_after old moment k (answer_of old.site old.history moment k)
   pub number : m'.number ≡ m.number
   pub kept : m'.kept ≡ None
   pub rest : is_asking m'.asked ≡ false
   pub fits : FitsState told new.site new.history m'.number m'.state
-  pub line : l ≡ line_by m.asked (phase_of m.state) (served_answer old.site old.history moment k)
-  pub phase : phase_of m'.state ≡ phase_after m.asked (phase_of m.state) (served_answer old.site old.history moment k)
+  pub line : l ≡ line_by m.asked (phase_of m.state) (answer_of old.site old.history moment k)
+  pub phase : phase_of m'.state ≡ phase_after m.asked (phase_of m.state) (answer_of old.site old.history moment k)
   pub loaded : is_loaded_in m'.state ≡ is_loaded_in m.state
   pub memory : is_memory l ≡ false
   pub about : IsAbout old.history m.number k
-
--- or it was not and why
-abbrev pub IsAnswered : {M : Type 0} → (M → Option TapeRecords) → Result StepLine Halt → Kept → Kept → Memo M → Memo M → ℕ → Ask → Type 0
-IsAnswered told (Ok l) old new m m' moment k = IsAskedOf told old new m m' moment k l
-IsAnswered told (Err halt.Unserved) old new m m' moment k = HasUnservedAsk old (Some k)
-IsAnswered told (Err halt.Wanting) old new m m' moment k = Unit {0}
+  pub led : (a : Answer) × ((out : Hand M) × (l ≡ line_after m.asked m.state a out))
+  pub free : IsFree m'.state → HasNoMount new.history m.number
 
 -- a session has made a step with this line
 pub record IsTurn {M : Type 0} (told : M → Option TapeRecords) (old new : Kept) (m m' : Memo M) (v v' : DriveView) (drive moment : ℕ) (l : StepLine) : Type 0 where
@@ -123,18 +134,14 @@ pub record IsTurn {M : Type 0} (told : M → Option TapeRecords) (old new : Kept
   pub row : Row
   pub heard : HasDone v v' done
   pub at : row_of drive (phase_of m.state) done ≡ Some row
-  pub served : IsServedRow old moment row
+  pub carried : IsCarriedOut old moment row
   pub keeps : new ≡ kept_by old moment row.ask
   pub line : l ≡ line_behind row (answer_to old moment row)
   pub phase : phase_of m'.state ≡ phase_behind row (answer_to old moment row)
   pub about : IsRowAbout old.history drive row.ask
+  pub said : IsSaid l done
+  pub honest : AlwaysTell told → v.honest ≡ true → (v'.honest ≡ true) × NoMismatch done
   pub manned : IsManned told new.site new.history drive m' v'
-
--- or not and why
-abbrev pub IsTurned : {M : Type 0} → (M → Option TapeRecords) → Result StepLine Halt → Kept → Kept → Memo M → Memo M → DriveView → DriveView → ℕ → ℕ → Type 0
-IsTurned told (Ok l) old new m m' v v' drive moment = IsTurn told old new m m' v v' drive moment l
-IsTurned told (Err halt.Unserved) old new m m' v v' drive moment = (done : Option Done) × (HasDone v v' done × HasUnservedRow old (row_of drive (phase_of m.state) done))
-IsTurned told (Err halt.Wanting) old new m m' v v' drive moment = Unit {0}
 
 -- a session of this drive that is free
 abbrev pub free_memo : {M : Type 0} → ℕ → Memo M

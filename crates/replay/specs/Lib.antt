@@ -6,6 +6,7 @@ pub mod Script
 pub mod Run
 pub mod Seen
 pub mod Output
+pub mod Promises
 pub mod Hands
 pub mod Intake
 pub mod Outcome

@@ -4,21 +4,21 @@ use Rattle.std.specs.List.{AllByRecursion}
 use Rattle.std.specs.Io.KnownBytes.{Appends, IsAtEnd}
 use Rattle.outside.specs.Causes.{Rose}
 use Rattle.outside.specs.Streams.{AppendsFront}
+use Rattle.blob.specs.Records.{TapeRecords}
 use Rattle.cta_site.specs.declared.site.Site.{Site}
 use Rattle.cta_site.specs.WellFormed.{IsWellFormed}
-use Rattle.cta_model.specs.Legal.{IsLegal}
 use Rattle.conn.specs.Cut.{Event}
 use Rattle.links.specs.Run.{Turn, IsRun, IsRunBehind}
 use Rattle.links.specs.Standing.{StandFor}
 use Rattle.links.specs.declared.links.Links.{Links}
 use Rattle.replay.specs.Seen.{SourceView, SinkView, ScriptView, World, world, unread, begun}
-use Rattle.drive_session.specs.declared.reports.Done.{Done}
 use Rattle.media.specs.Drives.{DriveView}
 use Rattle.media.specs.Made.{IsNewDrive}
-use Rattle.replay.specs.Script.{Record, OfDrive, ScriptCut, Ended, InLine, MayGoOn, IsRefusedAt, IsScriptCut, IsRecord, cut_bytes, cut_records, whole_bytes, spelling, ended}
-use Rattle.replay.specs.Steps.{IsUnservedStep, RunState, begun_with}
-use Rattle.replay.specs.Run.{Exchange, ScriptTurn, Happening, Stepped, IsScriptRun, record_of, links_turn, links_turns, turn_with, events_of, answered_on, happenings_of, all_happenings}
-use Rattle.replay.specs.Output.{Reply, AskFitly, HaveContents, after, frame, history_of_run, output_on}
+use Rattle.replay.specs.Script.{Record, ScriptCut, Ended, MayGoOn, IsRefusedAt, IsScriptCut, IsRecord, cut_bytes, cut_records, whole_bytes, spelling, ended}
+use Rattle.replay.specs.Steps.{RunState, begun_with}
+use Rattle.replay.specs.Run.{Exchange, ScriptTurn, Happening, IsScriptRun, record_of, links_turn, links_turns, turn_with, events_of, answered_on, happenings_of, all_happenings}
+use Rattle.replay.specs.Output.{Reply, HaveContents, after, frame, output_on}
+use Rattle.replay.specs.Promises.{AreSound, KeepsPromises}
 use Rattle.replay.specs.Intake.{Took, HasStopped, budget}
 use Rattle.replay.specs.declared.intake.Stop.{Stop}
 use Rattle.replay.specs.declared.intake.Stop.TheVariants.{End, Fault, Full, Memory}
@@ -27,7 +27,7 @@ use Rattle.replay.specs.declared.output.Unwritten.TheVariants.{Broken, Wanting}
 use Rattle.replay.specs.declared.feeding.FeedEnd.{FeedEnd}
 use Rattle.replay.specs.declared.feeding.FeedEnd.TheVariants.{All, Part, Unanswered}
 use Rattle.replay.specs.declared.status.Status.{Status}
-use Rattle.replay.specs.declared.status.Status.TheVariants.{Ok, Usage, Site as SiteRule, Script, ReadFault, WriteFault, NoMemory, TooLong, ListenFault, NotBuilt}
+use Rattle.replay.specs.declared.status.Status.TheVariants.{Ok, Usage, Site as SiteRule, Script, ReadFault, WriteFault, NoMemory, TooLong, ListenFault}
 
 -- ---- what is written
 
@@ -92,21 +92,6 @@ abbrev pub IsScriptFault : ℕ → Site → ScriptView → ScriptView → Script
 IsScriptFault offset site a b c =
     ((at : ℕ) × IsRefusedAt c.tail at × (offset ≡ a.taken + length (whole_bytes site c.whole) + at)) ⊎ (MayGoOn c.tail × IsAtEnd b.left × (b.taken < budget) × (offset ≡ b.taken))
 
--- the last whole record is a step whose ask is not served, which begins there, and all that is due for what happened before it was written
-pub record EndsUnserved (offset : ℕ) (s : RunState) (a b : World) (c : ScriptCut) (happened : List Happening) : Type 0 where
-  pub records : List Record
-  pub drive : ℕ
-  pub moment : ℕ
-  pub done : Option Done
-  pub seen : DriveView
-  pub first : List Happening
-  pub whole : c.whole ≡ records ++ OfDrive drive moment ∷ []
-  pub tail : c.tail ≡ InLine []
-  pub parts : happened ≡ first ++ Stepped drive moment done seen ∷ []
-  pub unserved : IsUnservedStep (after s first) drive done seen
-  pub offset_is : offset ≡ a.script.taken + length (whole_bytes s.site records)
-  pub wrote : Wrote s a.out b.out first
-
 -- when each status comes, and what was written then
 abbrev pub EndsScript : Status → RunState → World → World → ScriptCut → List Happening → Type 0
 EndsScript Ok s a b c happened = (c.tail ≡ Ended) × Wrote s a.out b.out happened
@@ -115,39 +100,38 @@ EndsScript ReadFault s a b c happened = MayGoOn c.tail × Rose a.script.faults b
 EndsScript WriteFault s a b c happened = MayGoOn c.tail × Rose a.out.faults b.out.faults × WritesFront s a.out b.out happened
 EndsScript NoMemory s a b c happened = MayGoOn c.tail × WritesFirst s a.out b.out happened
 EndsScript TooLong s a b c happened = MayGoOn c.tail × (b.script.taken ≡ budget) × Wrote s a.out b.out happened
-EndsScript (NotBuilt offset) s a b c happened = EndsUnserved offset s a b c happened
 EndsScript Usage s a b c happened = ⊥
 EndsScript (SiteRule rule item) s a b c happened = ⊥
 EndsScript ListenFault s a b c happened = ⊥
 
 -- behind earlier turns of the links the script was read up to some place, these are the turns of all that it brought, and it ended there with this status
-pub record Finishes (s : RunState) (before : List Turn) (a b : World) (status : Status) : Type 0 where
+pub record Finishes {M : Type 0} (told : M → Option TapeRecords) (s : RunState) (before : List Turn) (a b : World) (status : Status) : Type 0 where
   pub cut : ScriptCut
   pub is_cut : IsScriptCut s.site cut
   pub took : Took a.script b.script (cut_bytes s.site cut)
   pub turns : List ScriptTurn
   pub brought : map record_of turns ≡ cut_records cut
   pub run : IsRunBehind s.site.limits.file before (links_turns turns)
-  pub fit : AskFitly s (all_happenings turns)
+  pub sound : AreSound told s (all_happenings turns)
   pub ends : EndsScript status s a b cut (all_happenings turns)
 
 -- one more record was read, and answered, and this is kept now
-pub record AnswersRecord (links' : Links) (s now : RunState) (before : List Turn) (a b : World) : Type 0 where
+pub record AnswersRecord {M : Type 0} (told : M → Option TapeRecords) (links' : Links) (s now : RunState) (before : List Turn) (a b : World) : Type 0 where
   pub turn : ScriptTurn
   pub is_record : IsRecord s.site (record_of turn)
   pub took : Took a.script b.script (spelling s.site (record_of turn))
   pub stands : StandFor links' s.site.limits.file (before ++ links_turn turn)
-  pub fit : AskFitly s (happenings_of turn)
+  pub sound : AreSound told s (happenings_of turn)
   pub wrote : Wrote s a.out b.out (happenings_of turn)
   pub keeps : now ≡ after s (happenings_of turn)
 
 -- a record was answered, or the script ended
-abbrev pub Turns : Option Status → Links → RunState → RunState → List Turn → World → World → Type 0
-Turns None links' s now before a b = AnswersRecord links' s now before a b
-Turns (Some status) links' s now before a b = Finishes s before a b status
+abbrev pub Turns : {M : Type 0} → (M → Option TapeRecords) → Option Status → Links → RunState → RunState → List Turn → World → World → Type 0
+Turns told None links' s now before a b = AnswersRecord told links' s now before a b
+Turns told (Some status) links' s now before a b = Finishes told s before a b status
 
 -- the same, where the record had begun with front before a
-pub record FinishesAfter (s : RunState) (before : List Turn) (front : List ℕ) (a b : World) (status : Status) : Type 0 where
+pub record FinishesAfter {M : Type 0} (told : M → Option TapeRecords) (s : RunState) (before : List Turn) (front : List ℕ) (a b : World) (status : Status) : Type 0 where
   pub cut : ScriptCut
   pub is_cut : IsScriptCut s.site cut
   pub rest : List ℕ
@@ -156,25 +140,25 @@ pub record FinishesAfter (s : RunState) (before : List Turn) (front : List ℕ) 
   pub turns : List ScriptTurn
   pub brought : map record_of turns ≡ cut_records cut
   pub run : IsRunBehind s.site.limits.file before (links_turns turns)
-  pub fit : AskFitly s (all_happenings turns)
+  pub sound : AreSound told s (all_happenings turns)
   pub ends : EndsScript status s (begun a front) b cut (all_happenings turns)
 
 -- the record had begun with front before a, and was answered
-pub record AnswersAfter (links' : Links) (s now : RunState) (before : List Turn) (front : List ℕ) (a b : World) : Type 0 where
+pub record AnswersAfter {M : Type 0} (told : M → Option TapeRecords) (links' : Links) (s now : RunState) (before : List Turn) (front : List ℕ) (a b : World) : Type 0 where
   pub turn : ScriptTurn
   pub is_record : IsRecord s.site (record_of turn)
   pub rest : List ℕ
   pub spelled : spelling s.site (record_of turn) ≡ front ++ rest
   pub took : Took a.script b.script rest
   pub stands : StandFor links' s.site.limits.file (before ++ links_turn turn)
-  pub fit : AskFitly s (happenings_of turn)
+  pub sound : AreSound told s (happenings_of turn)
   pub wrote : Wrote s a.out b.out (happenings_of turn)
   pub keeps : now ≡ after s (happenings_of turn)
 
 -- either of the two
-abbrev pub TurnsAfter : Option Status → Links → RunState → RunState → List Turn → List ℕ → World → World → Type 0
-TurnsAfter None links' s now before front a b = AnswersAfter links' s now before front a b
-TurnsAfter (Some status) links' s now before front a b = FinishesAfter s before front a b status
+abbrev pub TurnsAfter : {M : Type 0} → (M → Option TapeRecords) → Option Status → Links → RunState → RunState → List Turn → List ℕ → World → World → Type 0
+TurnsAfter told None links' s now before front a b = AnswersAfter told links' s now before front a b
+TurnsAfter told (Some status) links' s now before front a b = FinishesAfter told s before front a b status
 
 -- the status that a stop gives
 abbrev pub stop_status : Stop → ℕ → Status
@@ -228,15 +212,15 @@ pub record AreNewDrives (tells : Bool) (site : Site) (seen : List DriveView) : T
   pub each : (d : ℕ) (v : DriveView) → slice_get seen d ≡ Some v → IsNewDrive tells site d v
 
 -- a run from the front of a script, for an archive of the site, which is valid, that has kept nothing yet, and drives that a bench has made: what status it ends with,
--- when, what it took and wrote then, and that the history which it has kept is legal
-pub record Replays (tells : Bool) (status : Status) (site : Site) (from to : SourceView) (a b : SinkView) : Type 0 where
+-- when, what it took and wrote then, and what it keeps whichever calls of devices fail
+pub record Replays {M : Type 0} (told : M → Option TapeRecords) (tells : Bool) (status : Status) (site : Site) (from to : SourceView) (a b : SinkView) : Type 0 where
   pub valid : IsWellFormed site
   pub seen : List DriveView
   pub drives : AreNewDrives tells site seen
   pub taken : ℕ
   pub within : taken ≤ budget
-  pub finishes : Finishes (begun_with site seen) [] (world (unread from) a) (world (record { left = to.left; taken = taken; faults = to.faults }) b) status
-  pub legal : IsLegal site (history_of_run site seen finishes.turns)
+  pub finishes : Finishes told (begun_with site seen) [] (world (unread from) a) (world (record { left = to.left; taken = taken; faults = to.faults }) b) status
+  pub promises : KeepsPromises told site seen finishes.turns
 
 -- the source has these whole records left, then the line `end` within the budget, then rest
 pub record ReachesEnd (site : Site) (left : Option (List ℕ)) (records : List Record) (rest : List ℕ) : Type 0 where
@@ -244,23 +228,18 @@ pub record ReachesEnd (site : Site) (left : Option (List ℕ)) (records : List R
   pub spelled : left ≡ Some (whole_bytes site records ++ (ended (codes "end") ++ rest))
   pub within : length (whole_bytes site records) + 4 ≤ budget
 
--- what follows the line `end` is left, and the whole output of a run of the records was written, whose history is legal
-pub record IsReadWhole (tells : Bool) (site : Site) (records : List Record) (rest : List ℕ) (to : SourceView) (a b : SinkView) : Type 0 where
+-- what follows the line `end` is left, and the whole output of a run of the records was written, which keeps what a run keeps whichever calls of devices fail
+pub record IsReadWhole {M : Type 0} (told : M → Option TapeRecords) (tells : Bool) (site : Site) (records : List Record) (rest : List ℕ) (to : SourceView) (a b : SinkView) : Type 0 where
   pub left : to.left ≡ Some rest
   pub seen : List DriveView
   pub drives : AreNewDrives tells site seen
   pub turns : List ScriptTurn
   pub run : IsScriptRun site records turns
   pub wrote : Wrote (begun_with site seen) a b (all_happenings turns)
-  pub legal : IsLegal site (history_of_run site seen turns)
+  pub promises : KeepsPromises told site seen turns
 
--- whether a status is that of what is not built
-abbrev pub IsNotBuilt : Status → Type 0
-IsNotBuilt (NotBuilt offset) = Unit {0}
-IsNotBuilt _ = ⊥
-
--- such a script, with no fault of the source or the sink, is read to its line `end`, or a step asks what is not served, or memory is wanted
-abbrev pub RunsToEnd : Bool → Status → Site → SourceView → SourceView → SinkView → SinkView → Type 0
-RunsToEnd tells status site from to a b =
+-- such a script, with no fault of the source or the sink, is read to its line `end`, or memory is wanted
+abbrev pub RunsToEnd : {M : Type 0} → (M → Option TapeRecords) → Bool → Status → Site → SourceView → SourceView → SinkView → SinkView → Type 0
+RunsToEnd told tells status site from to a b =
     (records : List Record) (rest : List ℕ) → ReachesEnd site from.left records rest → ¬ (Rose from.faults to.faults) → ¬ (Rose a.faults b.faults)
-    → ((status ≡ Ok) × IsReadWhole tells site records rest to a b) ⊎ (IsNotBuilt status ⊎ (status ≡ NoMemory))
+    → ((status ≡ Ok) × IsReadWhole told tells site records rest to a b) ⊎ (status ≡ NoMemory)

@@ -7,7 +7,7 @@ use Rattle.wire_http.specs.Reply.{reply_text, refusal_reply}
 use Rattle.conn.specs.Cut.{Event, Continues, Requests, Refuses, continue_text}
 use Rattle.tape_routes.specs.Answering.{request_reply, request_keeps, FitsRequest}
 use Rattle.media.specs.Drives.{DriveView}
-use Rattle.replay.specs.Run.{Exchange, ScriptTurn, Happening, Answered, Stepped, all_happenings}
+use Rattle.replay.specs.Run.{ScriptTurn, Happening, Answered, Stepped, all_happenings}
 use Rattle.replay.specs.Steps.{IsRowFit, IsStepOf, RunState, begun_with, behind_row, kept_in, row_at, with_kept, written_by}
 
 -- an archive that has kept nothing yet

@@ -15,7 +15,7 @@ use Rattle.replay.specs.Seen.{SourceView}
 use Rattle.replay.specs.declared.site.SiteEnd.{SiteEnd}
 use Rattle.replay.specs.declared.site.SiteEnd.TheVariants.{Whole, Long, Fault, Memory}
 use Rattle.replay.specs.declared.status.Status.{Status}
-use Rattle.replay.specs.declared.status.Status.TheVariants.{Ok, Usage, Site as SiteRule, Script, ReadFault, WriteFault, NoMemory, TooLong, ListenFault, NotBuilt}
+use Rattle.replay.specs.declared.status.Status.TheVariants.{Ok, Usage, Site as SiteRule, Script, ReadFault, WriteFault, NoMemory, TooLong, ListenFault}
 
 -- the most bytes of a site file
 abbrev pub site_limit : ℕ
@@ -57,7 +57,6 @@ NoArchive ReadFault bytes = ⊥
 NoArchive WriteFault bytes = ⊥
 NoArchive TooLong bytes = ⊥
 NoArchive ListenFault bytes = ⊥
-NoArchive (NotBuilt offset) bytes = ⊥
 
 -- an archive was made of bytes, or not and why
 abbrev pub ArchiveMade : Result Kept Status → List ℕ → Type 0
@@ -78,7 +77,6 @@ NoSite (Script offset) a b = ⊥
 NoSite WriteFault a b = ⊥
 NoSite TooLong a b = ⊥
 NoSite ListenFault a b = ⊥
-NoSite (NotBuilt offset) a b = ⊥
 
 -- the whole site file was read, and tells this site
 abbrev pub ReadsSite : SourceView → SourceView → Site → Type 0

@@ -9,6 +9,7 @@ use Rattle.cta_model.specs.declared.asks.Ask.{Ask}
 use Rattle.cta_model.specs.declared.asks.Direction.{Direction}
 use Rattle.cta_model.specs.declared.asks.Direction.TheVariants as direction
 use Rattle.cta_model.specs.History.{History}
+use Rattle.cta_model.specs.Answers.{answer_of}
 use Rattle.cta_model.specs.Kept.{Kept, kept_after}
 use Rattle.cta_model.specs.Legal.{IsFit}
 use Rattle.media.specs.Drives.{DriveView}
@@ -20,7 +21,6 @@ use Rattle.drive_session.specs.declared.reports.StepLine.TheVariants as line
 use Rattle.drive_session.specs.Answers.{is_memory, said}
 use Rattle.drive_session.specs.Steps.{HasDone}
 use Rattle.drive_session.specs.Table.{Free, Phase, Row, line_by, phase_after, row_of}
-use Rattle.served.specs.Served.{is_built, served_answer}
 use Rattle.replay.specs.Line.{drive_name}
 
 -- ---- what a run has come to
@@ -59,14 +59,23 @@ row_in drive done (Some d) = row_of drive d.phase done
 abbrev pub row_at : RunState → ℕ → Option Done → Option Row
 row_at s drive done = row_in drive done (slice_get s.drives drive)
 
--- what a row asks is answered as far as asks are served
+-- the answer of the sequential archive to what a row asks
 abbrev pub answer_to : Kept → ℕ → Row → Option Answer
-answer_to kept moment r = option_map (served_answer kept.site kept.history moment) r.ask
+answer_to kept moment r = option_map (answer_of kept.site kept.history moment) r.ask
 
 -- the line of a row, behind the answer where it asks
 abbrev pub line_behind : Row → Option Answer → StepLine
 line_behind r None = said r.asked
 line_behind r (Some a) = line_by r.asked r.phase a
+
+-- the line of a row, none where there is no row
+abbrev pub line_by_row : Kept → ℕ → Option Row → Option StepLine
+line_by_row kept moment None = None
+line_by_row kept moment (Some r) = Some (line_behind r (answer_to kept moment r))
+
+-- the line of a step in a run
+abbrev pub line_at : RunState → ℕ → ℕ → Option Done → Option StepLine
+line_at s drive moment done = line_by_row (kept_in s) moment (row_at s drive done)
 
 -- the phase behind a row
 abbrev pub phase_behind : Row → Option Answer → Phase
@@ -76,7 +85,7 @@ phase_behind r (Some a) = phase_after r.asked r.phase a
 -- what is kept behind what a row asks
 abbrev pub kept_by : Kept → ℕ → Option Ask → Kept
 kept_by kept moment None = kept
-kept_by kept moment (Some k) = kept_after kept moment k (served_answer kept.site kept.history moment k)
+kept_by kept moment (Some k) = kept_after kept moment k (answer_of kept.site kept.history moment k)
 
 -- the run behind a step with this row, where the drive is seen so
 abbrev pub behind_row : RunState → ℕ → ℕ → DriveView → Option Row → RunState
@@ -89,11 +98,6 @@ behind_row s drive moment seen (Some r) =
 
 -- ---- which steps are carried out
 
--- what a row asks is served
-abbrev pub IsAskServed : Option Ask → Type 0
-IsAskServed None = Unit {0}
-IsAskServed (Some k) = is_built k ≡ true
-
 -- what a row asks is what a session may ask
 abbrev pub IsAskFit : Site → History → Option Ask → Type 0
 IsAskFit site h None = Unit {0}
@@ -104,27 +108,16 @@ abbrev pub IsAnswerKnown : Option Answer → Type 0
 IsAnswerKnown None = Unit {0}
 IsAnswerKnown (Some a) = a ≢ answer.Refused refusal.Unknown
 
--- a row that is carried out: its ask is served, fit and not answered Unknown, and its line tells of no want of memory
-pub record IsServedRow (kept : Kept) (moment : ℕ) (r : Row) : Type 0 where
-  pub served : IsAskServed r.ask
+-- a row that is carried out: its ask is fit and not answered Unknown, and its line tells of no want of memory
+pub record IsCarriedOut (kept : Kept) (moment : ℕ) (r : Row) : Type 0 where
   pub fit : IsAskFit kept.site kept.history r.ask
   pub known : IsAnswerKnown (answer_to kept moment r)
   pub told : is_memory (line_behind r (answer_to kept moment r)) ≡ false
 
 -- there is a row, and it is carried out
-abbrev pub HasServedRow : Kept → ℕ → Option Row → Type 0
-HasServedRow kept moment None = ⊥
-HasServedRow kept moment (Some r) = IsServedRow kept moment r
-
--- something is asked that is fit and not served
-abbrev pub HasUnservedAsk : Kept → Option Ask → Type 0
-HasUnservedAsk kept None = ⊥
-HasUnservedAsk kept (Some k) = (is_built k ≡ false) × IsFit kept.site kept.history k
-
--- there is a row, and it asks so
-abbrev pub HasUnservedRow : Kept → Option Row → Type 0
-HasUnservedRow kept None = ⊥
-HasUnservedRow kept (Some r) = HasUnservedAsk kept r.ask
+abbrev pub HasCarriedOut : Kept → ℕ → Option Row → Type 0
+HasCarriedOut kept moment None = ⊥
+HasCarriedOut kept moment (Some r) = IsCarriedOut kept moment r
 
 -- the device of a drive has answered so in one call, or made none
 abbrev pub HasAnsweredSo : Option DriveState → Option Done → DriveView → Type 0
@@ -134,12 +127,7 @@ HasAnsweredSo (Some d) done seen = HasDone d.seen seen done
 -- a step that is carried out: its device has answered so, and it has a row that is carried out
 pub record IsStepOf (s : RunState) (drive moment : ℕ) (done : Option Done) (seen : DriveView) : Type 0 where
   pub device : HasAnsweredSo (slice_get s.drives drive) done seen
-  pub row : HasServedRow (kept_in s) moment (row_at s drive done)
-
--- a step whose ask is not served: its device has answered so, and the archive is not asked
-pub record IsUnservedStep (s : RunState) (drive : ℕ) (done : Option Done) (seen : DriveView) : Type 0 where
-  pub device : HasAnsweredSo (slice_get s.drives drive) done seen
-  pub row : HasUnservedRow (kept_in s) (row_at s drive done)
+  pub row : HasCarriedOut (kept_in s) moment (row_at s drive done)
 
 -- the ask of a step, where it has a row, is one that a session may make
 abbrev pub IsRowFit : Kept → Option Row → Type 0

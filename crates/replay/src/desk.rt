@@ -1,12 +1,11 @@
 // A desk: an archive behind its routes, and the drives of its site with their sessions.
-ghost use Rattle.std.specs.Prelude.{◌≡◌, ◌≤◌, ◌<◌, None, true, false, map, length, IfOk, MatchResult, OnOk};
+ghost use Rattle.std.specs.Prelude.{◌≡◌, ◌≤◌, ◌<◌, None, true, false, map, length, IfOk, OnOk};
 ghost use Rattle.cta_model.specs.Bare.{bare_ask};
 ghost use Rattle.cta_model.specs.Legal.{IsLegal, greatest_moment};
 ghost use Rattle.drive_session.specs.Answers.{is_asking, is_memory};
 ghost use Rattle.drive_session.specs.Fits.{FitsOpen};
 ghost use Rattle.tape_routes.specs.Answering.{IsReplyTo, request_keeps};
-ghost use Rattle.replay.specs.declared.desk.Halt.TheVariants as halt;
-ghost use Rattle.replay.specs.Desk.{AreFree, AreManned, Begins, IsAnswered, IsManned, IsStepped, IsTurned};
+ghost use Rattle.replay.specs.Desk.{AreFree, AreManned, Begins, IsAskedOf, IsIdleFor, IsManned, IsTurn, StepsOn};
 ghost use Rattle.replay.specs.Outcome.{AreNewDrives};
 ghost use Rattle.replay.specs.Output.{fresh};
 ghost use Rattle.replay.specs.Steps.{kept_in, with_kept};
@@ -23,17 +22,8 @@ use std::marker::Model;
 use tape_routes::{Routes, callers_ask};
 use wire_http::Request;
 
-// Why a step was not carried out.
-#[derive(Clone, Copy, Debug, PartialEq, Eq)]
-pub(crate) enum Halt {
-    // Its ask is not served.
-    Unserved,
-    // Memory was wanted.
-    Wanting,
-}
-
 // An archive behind its routes, and the drives of its site, by number, each with its session. Once a step or a request has
-// found no memory, or a step asked what is not served, it is not used again. It is let go by `let_go` alone.
+// found no memory, it is not used again. It is let go by `let_go` alone.
 pub(crate) struct Desk<D: TapeDrive + Drop> {
     service: Service<D::Medium>,
     sessions: Vec<Session<D>>,
@@ -109,18 +99,20 @@ fn parts_for<D: TapeDrive + Drop, B: Bench<D>>(
     })
 }
 
-// Asks what a session asks, with what goes with it, and gives it the answer: the line that it leads to.
+// Asks what a session asks, with what goes with it, and gives it the answer: the line that it leads to. What a session asks is
+// always served.
 fn answered<D: TapeDrive>(
     archive: &mut Archive<D::Medium>,
     session: &mut Session<D>,
     moment: u64,
     asked: (Ask, Hand<D::Medium>),
-) -> Result<StepLine, Halt>
+) -> Result<StepLine, NoMemory>
     requires moment { moment ≤ greatest_moment }
     requires asks { FitsOpen D.Medium.told archive.old.site archive.old.history session.old.number session.old.state session.old.asked asked.0 asked.1 }
     requires open { is_asking session.old.asked ≡ true }
+    requires idle { IsIdleFor archive.old.history session.old.number (bare_ask asked.0) }
     requires kept { session.old.kept ≡ None }
-    ensures answered { IsAnswered D.Medium.told result archive.old archive.new session.old session.new moment (bare_ask asked.0) }
+    ensures answered { IfOk result (λ l. IsAskedOf D.Medium.told archive.old archive.new session.old session.new moment (bare_ask asked.0) l) }
 {
     asks_are_fit::<D>();
     asks_are_known::<D>();
@@ -128,21 +120,18 @@ fn answered<D: TapeDrive>(
     answers_lead_by_phase::<D>();
     archive.keeps_history();
     let (ask, hand) = asked;
-    if !archive.serves(&ask) {
-        return Err(Halt::Unserved);
-    }
     match archive.ask(moment, ask, hand) {
         Ok(back) => Ok(session.take(Ok(back))),
-        Err(_) => Err(Halt::Wanting),
+        Err((error, _, _)) => Err(error),
     }
 }
 
 // The line of a step that asked nothing. One that wanted memory has none.
-fn unasked(line: StepLine) -> Result<StepLine, Halt>
-    ensures { MatchResult result (λ l. (l ≡ line) × (is_memory l ≡ false)) (λ why. why ≡ halt.Wanting) }
+fn unasked(line: StepLine) -> Result<StepLine, NoMemory>
+    ensures { IfOk result (λ l. (l ≡ line) × (is_memory l ≡ false)) }
 {
     match line {
-        StepLine::Memory => Err(Halt::Wanting),
+        StepLine::Memory => Err(NoMemory),
         _ => Ok(line),
     }
 }
@@ -154,10 +143,10 @@ fn turned<D: TapeDrive>(
     drive: &mut D,
     number: u32,
     moment: u64,
-) -> Result<StepLine, Halt>
+) -> Result<StepLine, NoMemory>
     requires moment { moment ≤ greatest_moment }
     requires manned { IsManned D.Medium.told archive.old.site archive.old.history number session.old (D.seen drive.old) }
-    ensures { IsTurned D.Medium.told result archive.old archive.new session.old session.new (D.seen drive.old) (D.seen drive.new) number moment }
+    ensures { IfOk result (λ l. IsTurn D.Medium.told archive.old archive.new session.old session.new (D.seen drive.old) (D.seen drive.new) number moment l) }
 {
     steps_hear_answers();
     let report = session.work(drive);
@@ -175,8 +164,9 @@ impl<D: TapeDrive + Drop> Desk<D> {
         bench: &mut B,
     ) -> Result<Desk<D>, NoMemory>
         requires { archive ≡ fresh archive.site }
-        ensures { IfOk result (λ desk. Begins (B.tells bench.old) archive.site desk) }
+        ensures { IfOk result (λ desk. Begins D.Medium.told (B.tells bench.old) archive.site desk) }
     {
+        archive.keeps_media();
         match parts_for(alloc, archive.site(), bench) {
             Ok(
                 DeskParts {
@@ -250,11 +240,11 @@ impl<D: TapeDrive + Drop> Desk<D> {
     }
 
     // One step of the session of a drive of the site at a moment, in seconds since 1970, and its line.
-    pub(crate) fn step(&mut self, drive: u32, moment: u64) -> Result<StepLine, Halt>
+    pub(crate) fn step(&mut self, drive: u32, moment: u64) -> Result<StepLine, NoMemory>
         requires drive { drive < length self.old.run.site.drives.items }
         requires moment { moment ≤ greatest_moment }
         requires ready { self.old.ready ≡ true }
-        ensures stepped { IsStepped result self.old.run self.new.run drive moment }
+        ensures stepped { IfOk result (λ l. StepsOn D.Medium.told self.old.run self.new.run drive moment l) }
         ensures ready { OnOk result (self.new.ready ≡ true) }
     {
         session_stays::<D>();
@@ -268,6 +258,7 @@ impl<D: TapeDrive + Drop> Desk<D> {
             moment,
         );
         self.service.archive.keeps_history();
+        self.service.archive.keeps_media();
         self.ready = turned.is_ok();
         turned
     }

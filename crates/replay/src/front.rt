@@ -26,7 +26,7 @@ impl<D: TapeDrive + Drop> Front<D> {
         bench: &mut B,
     ) -> Result<Front<D>, NoMemory>
         requires { archive ≡ fresh archive.site }
-        ensures begins { IfOk result (λ front. Begins (B.tells bench.old) archive.site front.desk) }
+        ensures begins { IfOk result (λ front. Begins D.Medium.told (B.tells bench.old) archive.site front.desk) }
         ensures links { IfOk result (λ front. LinksStand front.links archive.site.limits.file (λ link. []) (λ link. [])) }
     {
         let links = match Links::new(alloc, archive.site().limits().file) {

@@ -2,11 +2,13 @@
 ghost use Rattle.cta_site.specs.declared.site.Site.{Site};
 ghost use Rattle.cta_site.specs.ValidSite.{IsValidSite};
 ghost use Rattle.replay.specs.Script.{HasOneReading};
-ghost use Rattle.replay.specs.Laws.{HasLinksApart, HasOneOutput, KeepsLegalHistories, OutputsFollow};
+ghost use Rattle.replay.specs.Laws.{HasLinksApart, HasOneOutput, KeepsLegalHistories, LiveReadsAreDone, OutputsFollow, RunsKeepPromises};
 
+use cta_laws::{claimer_moves, claims_nothing_after_end, is_queued_or_claimed, true_medium_stays};
 use cta_model::histories_stay_legal;
 use cta_site::valid_is_well_formed;
 use links::one_run;
+use media::TapeDrive;
 use tape_routes::callers_ask;
 
 /// The bytes of a script that was cut somewhere are read in one way: for a valid site, two cuts with the same bytes are
@@ -48,3 +50,26 @@ pub fn runs_keep_legal_histories()
     histories_stay_legal();
     callers_ask();
 }
+
+/// A run of records from media that are true for the empty history, in which each step is sound, keeps what a run keeps whichever
+/// calls of devices fail: its history is legal; each tape has a medium that is true for it, where it tells its records; each job that a
+/// Failed names, and that has not ended, stands in its queue again right behind it; behind the End of a mount each live job stands in its
+/// queue, or another open mount claims it; and where media always tell, a drive that is honest meets no mismatch, and what it reads of a
+/// live job is done unless the device fails. A law, which does nothing when it runs.
+pub fn runs_keep_promises<D: TapeDrive>()
+    ensures { RunsKeepPromises D.Medium.told }
+{
+    histories_stay_legal();
+    callers_ask();
+    true_medium_stays();
+    is_queued_or_claimed();
+    claimer_moves();
+    claims_nothing_after_end();
+    live_reads_are_done();
+}
+
+/// What is read of a live job is done, where the device neither fails nor gives other bytes than the file's. A law, which does nothing
+/// when it runs.
+pub fn live_reads_are_done()
+    ensures { LiveReadsAreDone }
+{}

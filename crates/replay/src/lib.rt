@@ -24,6 +24,9 @@ mod tests;
 mod top;
 mod words;
 
-pub use laws::{links_apart, one_output, one_reading, outputs_follow, runs_keep_legal_histories};
+pub use laws::{
+    links_apart, live_reads_are_done, one_output, one_reading, outputs_follow,
+    runs_keep_legal_histories, runs_keep_promises,
+};
 pub use status::Status;
 pub use top::replay_top;

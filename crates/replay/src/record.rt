@@ -7,9 +7,8 @@ ghost use Rattle.replay.specs.Line.{http_text, IsDriveStep, IsHttp};
 ghost use Rattle.replay.specs.Script.{ended};
 ghost use Rattle.replay.specs.Seen.{script_view, sink_view, world};
 ghost use Rattle.replay.specs.Outcome.{Turns, TurnsAfter, TookLf, stop_status, unwritten_status};
-ghost use Rattle.replay.specs.StepRecords.{HasStepped, halt_status};
+ghost use Rattle.replay.specs.StepRecords.{HasStepped};
 
-use crate::desk::Halt;
 use crate::feeding::{FeedEnd, feed_record};
 use crate::front::Front;
 use crate::intake::{LINE, LineEnd, Stop, take_byte, take_line};
@@ -74,7 +73,7 @@ fn http_record<S: Source, K: Sink, D: TapeDrive + Drop>(
     requires within { taken.old ≤ budget }
     requires buffer { 0 < length buffer.old }
     ensures turns { (before : List Turn) → StandFor front.old.links front.old.desk.run.site.limits.file before
-        → TurnsAfter result front.new.links front.old.desk.run front.new.desk.run before (ended (http_text line.link line.moment line.len))
+        → TurnsAfter D.Medium.told result front.new.links front.old.desk.run front.new.desk.run before (ended (http_text line.link line.moment line.len))
         (world (script_view (S.left script.old) taken.old (S.faults script.old)) (sink_view (K.written out.old) (K.faults out.old)))
         (world (script_view (S.left script.new) taken.new (S.faults script.new)) (sink_view (K.written out.new) (K.faults out.new))) }
     ensures ready { IfNone result (front.new.desk.ready ≡ front.old.desk.ready) }
@@ -89,28 +88,17 @@ fn http_record<S: Source, K: Sink, D: TapeDrive + Drop>(
     }
 }
 
-// The status of a step that was not carried out, on the line that begins at this byte.
-fn halted(why: Halt, start: u64) -> Status
-    ensures { result ≡ halt_status why start }
-{
-    match why {
-        Halt::Unserved => Status::NotBuilt { offset: start },
-        Halt::Wanting => Status::NoMemory,
-    }
-}
-
-// A `step` record behind its line, which begins at this byte of the script: the step is made, and its line written.
+// A `step` record behind its line: the step is made, and its line written.
 fn step_record<K: Sink, D: TapeDrive + Drop>(
     alloc: Global,
     front: &mut Front<D>,
-    start: u64,
     out: &mut K,
     drive: u32,
     moment: u64,
 ) -> Option<Status>
     requires step { IsDriveStep front.old.desk.run.site drive moment }
     requires ready { front.old.desk.ready ≡ true }
-    ensures stepped { HasStepped result front.old.desk.run front.new.desk.run start drive moment
+    ensures stepped { HasStepped D.Medium.told result front.old.desk.run front.new.desk.run drive moment
         (sink_view (K.written out.old) (K.faults out.old)) (sink_view (K.written out.new) (K.faults out.new)) }
     ensures links { front.new.links ≡ front.old.links }
     ensures ready { IfNone result (front.new.desk.ready ≡ true) }
@@ -121,7 +109,7 @@ fn step_record<K: Sink, D: TapeDrive + Drop>(
             Ok(()) => None,
             Err(why) => Some(unwritten(why)),
         },
-        Err(why) => Some(halted(why, start)),
+        Err(_) => Some(Status::NoMemory),
     }
 }
 
@@ -138,7 +126,7 @@ pub(crate) fn one_record<S: Source, K: Sink, D: TapeDrive + Drop>(
     requires buffer { 0 < length buffer.old }
     requires ready { front.old.desk.ready ≡ true }
     ensures turns { (before : List Turn) → StandFor front.old.links front.old.desk.run.site.limits.file before
-        → Turns result front.new.links front.old.desk.run front.new.desk.run before
+        → Turns D.Medium.told result front.new.links front.old.desk.run front.new.desk.run before
         (world (script_view (S.left script.old) taken.old (S.faults script.old)) (sink_view (K.written out.old) (K.faults out.old)))
         (world (script_view (S.left script.new) taken.new (S.faults script.new)) (sink_view (K.written out.new) (K.faults out.new))) }
     ensures ready { IfNone result (front.new.desk.ready ≡ true) }
@@ -153,9 +141,7 @@ pub(crate) fn one_record<S: Source, K: Sink, D: TapeDrive + Drop>(
         LineEnd::Whole(n) => match line_of(&line[..n], front.desk.site()) {
             None => Some(Status::Script { offset: start }),
             Some(Line::End) => Some(Status::Ok),
-            Some(Line::Step { drive, moment }) => step_record(
-                alloc, front, start, out, drive, moment,
-            ),
+            Some(Line::Step { drive, moment }) => step_record(alloc, front, out, drive, moment),
             Some(Line::Http(http)) => http_record(alloc, front, script, taken, out, buffer, http),
         },
     }

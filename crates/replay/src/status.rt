@@ -1,6 +1,6 @@
 // How a run ends.
 
-/// How a run of the program ends. The numbers that a program ends with are 0 and 2 to 9, and 11.
+/// How a run of the program ends. The numbers that a program ends with are 0 and 2 to 9.
 #[derive(Clone, Copy, Debug, PartialEq, Eq)]
 pub enum Status {
     /// All was done: a script was read to its line `end` (0).
@@ -21,6 +21,4 @@ pub enum Status {
     TooLong,
     /// The address could not be listened on (9).
     ListenFault,
-    /// What is asked at this byte of the script is not built yet (11).
-    NotBuilt { offset: u64 },
 }

@@ -26,10 +26,11 @@ fn run_archive<S: Source, K: Sink, D: TapeDrive + Drop, B: Bench<D>>(
     bench: &mut B,
 ) -> Status
     requires { archive ≡ fresh archive.site }
-    ensures { Replays (B.tells bench.old) result archive.site (source_view (S.left script.old) (S.faults script.old)) (source_view (S.left script.new) (S.faults script.new))
+    ensures { Replays D.Medium.told (B.tells bench.old) result archive.site (source_view (S.left script.old) (S.faults script.old)) (source_view (S.left script.new) (S.faults script.new))
         (sink_view (K.written out.old) (K.faults out.old)) (sink_view (K.written out.new) (K.faults out.new)) }
 {
     archive.site().keeps_rules();
+    archive.keeps_media();
     match Front::new(alloc, archive, bench) {
         Ok(mut front) => {
             let status = run_script(alloc, &mut front, script, out);
@@ -50,7 +51,7 @@ fn replay_site<A: Source, S: Source, K: Sink, D: TapeDrive + Drop, B: Bench<D>>(
     bench: &mut B,
     keys: RandomState,
 ) -> Status
-    ensures { Runs (B.tells bench.old) result (map string_bytes words.now)
+    ensures { Runs D.Medium.told (B.tells bench.old) result (map string_bytes words.now)
         (handed (source_view (A.left site_bytes.old) (A.faults site_bytes.old)) (source_view (S.left script.old) (S.faults script.old)) (sink_view (K.written out.old) (K.faults out.old)))
         (handed (source_view (A.left site_bytes.new) (A.faults site_bytes.new)) (source_view (S.left script.new) (S.faults script.new)) (sink_view (K.written out.new) (K.faults out.new))) }
 {
@@ -87,9 +88,6 @@ fn replay_site<A: Source, S: Source, K: Sink, D: TapeDrive + Drop, B: Bench<D>>(
 /// - `Usage`: the words are of another form. Nothing was read or written.
 /// - `Site`: the site file breaks this rule, of the thirty rules of a site file the first, and first at this item of its
 ///   list (0 where the rule speaks of no element). The script is untouched and nothing was written.
-/// - `NotBuilt`: at this offset, in bytes of the script from 0, begins a `step` of a drive of the site whose ask is not served yet: one
-///   behind a call of the device that failed while files were written or read, or behind a read of other bytes than the file's. The call
-///   was made; its line is not written, and all that was due before it was.
 /// - `Script`: at this offset no record begins or goes on, or the script ended there, in a record or before `end`. A
 ///   record that is cut has fed what it held. All that was due was written.
 /// - `ReadFault`: the count of faults of the site file's source rose in this call, the script is untouched and nothing
@@ -97,6 +95,10 @@ fn replay_site<A: Source, S: Source, K: Sink, D: TapeDrive + Drop, B: Bench<D>>(
 /// - `WriteFault`: the count of faults of `out` rose in this call. A front of what is due was written.
 /// - `NoMemory`: memory was wanted. Whole replies and lines were written, from the first on.
 /// - `TooLong`: 2^32 bytes of the script were taken without `end`. All that was due was written.
+///
+/// Whichever calls of devices fail, behind each step each tape of the site has a medium that is true for what is kept, where it tells
+/// its records; each job that a fault gave back, and that has not ended, stands in its queue again right behind it; and where media always
+/// tell, a drive that is honest meets no mismatch.
 ///
 /// `ListenFault` is not answered. It always returns. The replies are those to the bytes that were taken: of a record's
 /// bytes no more than 16,384 are taken at a time, and none before there is room for them. Its memory is that of the archive, of
@@ -112,11 +114,11 @@ pub fn replay_top<A: Source, S: Source, K: Sink, D: TapeDrive + Drop, B: Bench<D
     keys: RandomState,
 ) -> Status
     // Which status comes when, what was taken then and what was written.
-    ensures runs { Runs (B.tells bench.old) result (map string_bytes words.now)
+    ensures runs { Runs D.Medium.told (B.tells bench.old) result (map string_bytes words.now)
         (handed (source_view (A.left site_bytes.old) (A.faults site_bytes.old)) (source_view (S.left script.old) (S.faults script.old)) (sink_view (K.written out.old) (K.faults out.old)))
         (handed (source_view (A.left site_bytes.new) (A.faults site_bytes.new)) (source_view (S.left script.new) (S.faults script.new)) (sink_view (K.written out.new) (K.faults out.new))) }
     // A whole script is run to its end, unless something fails or memory is wanted.
-    ensures whole { RunsWhole (B.tells bench.old) result (map string_bytes words.now)
+    ensures whole { RunsWhole D.Medium.told (B.tells bench.old) result (map string_bytes words.now)
         (handed (source_view (A.left site_bytes.old) (A.faults site_bytes.old)) (source_view (S.left script.old) (S.faults script.old)) (sink_view (K.written out.old) (K.faults out.old)))
         (handed (source_view (A.left site_bytes.new) (A.faults site_bytes.new)) (source_view (S.left script.new) (S.faults script.new)) (sink_view (K.written out.new) (K.faults out.new))) }
 {

@@ -1,4 +1,4 @@
-use Rattle.std.proofs.Common.{◌≡◌, ◌+◌, ℕ, ◌∷◌, [], List, length, refl, ap, arith, subst, sym, ◌∙◌}
+use Rattle.std.proofs.Common.{◌≡◌, ◌+◌, length, refl, ap, arith, subst, sym, ◌∙◌}
 use Rattle.media.specs.Made.{IsNewDrive}
 use Rattle.replay.proofs.Benches.{Numbered, new_drives, numbered_more, numbered_none}
 use Rattle.replay.proofs.desk.drives_of.Goals as goal

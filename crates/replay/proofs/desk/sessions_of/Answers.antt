@@ -1,4 +1,4 @@
-use Rattle.std.proofs.Common.{◌≡◌, ◌+◌, ◌∷◌, [], length, arith, subst, sym}
+use Rattle.std.proofs.Common.{◌≡◌, ◌+◌, arith, subst, sym}
 use Rattle.replay.specs.Desk.{free_memo}
 use Rattle.replay.proofs.Benches.{Numbered, free_sessions, numbered_more, numbered_none}
 use Rattle.replay.proofs.desk.sessions_of.Goals as goal

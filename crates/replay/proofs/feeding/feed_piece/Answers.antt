@@ -1,5 +1,4 @@
 use Rattle.std.proofs.Common.{◌∷◌, ◌++◌, [], refl, sym, subst}
-use Rattle.conn.specs.Stands.{given_by}
 use Rattle.links.specs.Run.{IsRun}
 use Rattle.links.specs.Standing.{StandFor}
 use Rattle.replay.specs.Seen.{sink_view}

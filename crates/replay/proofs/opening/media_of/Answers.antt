@@ -1,4 +1,4 @@
-use Rattle.std.proofs.Common.{◌≡◌, ◌+◌, ◌∷◌, [], length, refl, ap, arith, subst, sym, ◌∙◌}
+use Rattle.std.proofs.Common.{◌≡◌, ◌+◌, length, refl, ap, arith, subst, sym, ◌∙◌}
 use Rattle.media.specs.Made.{IsNewMedium}
 use Rattle.replay.proofs.Benches.{Numbered, first_media, numbered_more, numbered_none}
 use Rattle.replay.proofs.opening.media_of.Goals as goal

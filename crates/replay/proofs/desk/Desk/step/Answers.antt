@@ -52,4 +52,4 @@ returns-clause-stepped g c =
     let seen : slice_get vs d ≡ Some (g.D.TapeDrive.seen c.index_mut-2.result.now) = seen_at g.D.TapeDrive.seen ds d c.index_mut-2.result.now (indexed ds d c.index_mut-2.result.now two c.index_mut-2.ensures.value) in
     rw (map-put g.D.TapeDrive.seen ds d c.turned-turned.new.drive)
     (stepped g.D.Medium.Told.told c.session_stays.ensures c.self.inside.service.archive ms vs c.self.inside.ready c.args.self.now c.self.view_is c.self.invariant c.requires.ready d c.requires.drive c.index_mut.result.now (g.D.TapeDrive.seen c.index_mut-2.result.now) at seen
-    c.turned-turned.new.archive c.turned-turned.new.session (g.D.TapeDrive.seen c.turned-turned.new.drive) c.args.moment c.turned-turned.result c.turned-turned.ensures)
+    c.turned-turned.new.archive c.turned-turned.new.session (g.D.TapeDrive.seen c.turned-turned.new.drive) c.args.moment c.keeps_history.ensures c.keeps_media.ensures c.turned-turned.result c.turned-turned.ensures)

@@ -1,4 +1,4 @@
-use Rattle.std.proofs.Common.{◌≡◌, [], ap, sym, ◌∙◌, subst}
+use Rattle.std.proofs.Common.{◌≡◌, [], ap, ◌∙◌, subst}
 use Rattle.links.specs.Standing.{LinksStand}
 use Rattle.replay.proofs.front.Front.new.Goals as goal
 

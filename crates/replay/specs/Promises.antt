@@ -1,0 +1,138 @@
+-- What a run keeps, whichever calls of devices fail.
+use Rattle.std.specs.Prelude.{◌≡◌, ◌≢◌, ℕ, ◌<◌, ◌⊎◌, ◌++◌, [], ◌∷◌, length, List, slice_get, Option, Some, None, IsSome, Bool, true, false}
+use Rattle.blob.specs.Records.{TapeRecords}
+use Rattle.cta_site.specs.declared.site.Site.{Site}
+use Rattle.cta_site.specs.Listed.{Listed}
+use Rattle.cta_model.specs.declared.asks.Ask.TheVariants as ask
+use Rattle.cta_model.specs.declared.asks.Fault.{Fault}
+use Rattle.cta_model.specs.declared.asks.Item.{Item}
+use Rattle.cta_model.specs.declared.asks.Job.{Job}
+use Rattle.cta_model.specs.declared.entries.Entry.{Entry}
+use Rattle.cta_model.specs.History.{History}
+use Rattle.cta_model.specs.Jobs.{is_live_job}
+use Rattle.cta_model.specs.Kept.{Kept}
+use Rattle.cta_model.specs.Legal.{IsLegal}
+use Rattle.cta_model.specs.Media.{IsTrueWhereTold}
+use Rattle.cta_model.specs.Mounts.{has_job}
+use Rattle.cta_laws.specs.Jobs.{IsClaimed, IsQueued}
+use Rattle.media.specs.Drives.{DriveView}
+use Rattle.drive_session.specs.declared.reports.Done.{Done}
+use Rattle.drive_session.specs.declared.reports.Done.TheVariants as done
+use Rattle.drive_session.specs.declared.reports.ReadEnd.TheVariants as end
+use Rattle.drive_session.specs.declared.reports.StepLine.{StepLine}
+use Rattle.drive_session.specs.declared.reports.StepLine.TheVariants as line
+use Rattle.drive_session.specs.Lawful.{IsSaid}
+use Rattle.drive_session.specs.Steps.{NoMismatch}
+use Rattle.drive_session.specs.Table.{Phase, Reading, Row}
+use Rattle.replay.specs.Output.{after, run_behind}
+use Rattle.replay.specs.Run.{Answered, Happening, ScriptTurn, Stepped, all_happenings}
+use Rattle.replay.specs.Steps.{DriveState, HasCarriedOut, IsRowFit, RunState, begun_with, kept_by, kept_in, line_at, row_at}
+
+-- ---- media
+
+-- media of this type always tell their records
+abbrev pub AlwaysTell : {M : Type 0} → (M → Option TapeRecords) → Type 0
+AlwaysTell {M = M} told = (m : M) → IsSome (told m)
+
+-- each tape of the site has a medium that is true for the history where it tells its records: so each place of a file on the tape names a record that was flushed,
+-- of the file's length and SHA-256
+abbrev pub AllTapesHaveMedia : {M : Type 0} → (M → Option TapeRecords) → Site → History → Type 0
+AllTapesHaveMedia {M = M} told site h = (v : ℕ) → v < length site.tapes.items → (m : M) × IsTrueWhereTold told h v m
+
+-- ---- jobs
+
+-- each job that a Failed of the history names, and that has not ended, stands in its queue again right behind it, in order of birth, file and copy
+abbrev pub ReturnsJobs : Site → History → Type 0
+ReturnsJobs site h =
+    (newer older : History) (e : Entry) (m : ℕ) (fault : Fault) (charged returned : Listed Job) (j : Job) → h ≡ newer ++ e ∷ older → e.ask ≡ ask.Failed m fault charged returned
+    → has_job j (charged.items ++ returned.items) ≡ true → is_live_job site (e ∷ older) j ≡ true → IsQueued site (e ∷ older) j
+
+-- behind the End of a mount each live job stands in its queue, or another open mount claims it
+abbrev pub LeavesNoJob : Site → History → Type 0
+LeavesNoJob site h =
+    (newer older : History) (e : Entry) (m : ℕ) (fault : Option Fault) (j : Job) → h ≡ newer ++ e ∷ older → e.ask ≡ ask.End m fault → is_live_job site (e ∷ older) j ≡ true
+    → IsQueued site (e ∷ older) j ⊎ ((x : IsClaimed site (e ∷ older) j) × (x.mount ≢ m))
+
+-- ---- reads
+
+-- a line says that other bytes than the file's were read
+abbrev pub says_mismatch : StepLine → Bool
+says_mismatch (line.Read s end.Mismatch) = true
+says_mismatch _ = false
+
+-- no call of the device failed
+abbrev pub NoFault : Option Done → Type 0
+NoFault (Some (done.Fault c)) = ⊥
+NoFault _ = Unit {0}
+
+-- the item that is read next in a phase, none where nothing is read
+abbrev pub item_in : Phase → Option Item
+item_in (Reading x items at) = slice_get items at
+item_in _ = None
+
+-- the item that a drive reads next, none where it reads none
+abbrev pub item_at : Option DriveState → Option Item
+item_at None = None
+item_at (Some d) = item_in d.phase
+
+-- a step that reads an item of a live job, and whose device doesn't fail, says done
+abbrev pub ReadsDone : RunState → ℕ → ℕ → Option Done → Type 0
+ReadsDone s drive moment heard =
+    (i : Item) → item_at (slice_get s.drives drive) ≡ Some i → is_live_job s.site s.history i.job ≡ true → NoFault heard → HasCarriedOut (kept_in s) moment (row_at s drive heard)
+    → line_at s drive moment heard ≡ Some (line.Read i.fseq end.Done)
+
+-- ---- steps
+
+-- a drive is honest: a read of it gives what the record holds, or fails
+abbrev pub IsHonestAt : RunState → ℕ → Type 0
+IsHonestAt s drive = (d : DriveState) → slice_get s.drives drive ≡ Some d → d.seen.honest ≡ true
+
+-- each tape has a true medium behind what a row asks
+abbrev pub HaveMediaBehind : {M : Type 0} → (M → Option TapeRecords) → Kept → ℕ → Option Row → Type 0
+HaveMediaBehind told kept moment None = Unit {0}
+HaveMediaBehind told kept moment (Some r) = AllTapesHaveMedia told kept.site (kept_by kept moment r.ask).history
+
+-- what each step keeps: it asks what a session may ask; its line says what the device answered; each tape has a true medium behind it; and where media always tell, an
+-- honest drive stays so and gives no mismatch
+pub record IsSoundStep {M : Type 0} (told : M → Option TapeRecords) (s : RunState) (drive moment : ℕ) (heard : Option Done) (seen : DriveView) : Type 0 where
+  pub fit : IsRowFit (kept_in s) (row_at s drive heard)
+  pub said : (l : StepLine) → line_at s drive moment heard ≡ Some l → IsSaid l heard
+  pub media : HaveMediaBehind told (kept_in s) moment (row_at s drive heard)
+  pub honest : AlwaysTell told → IsHonestAt s drive → (seen.honest ≡ true) × NoMismatch heard
+
+-- what happens keeps it, if it is a step
+abbrev pub IsSound : {M : Type 0} → (M → Option TapeRecords) → RunState → Happening → Type 0
+IsSound told s (Answered link moment exchange) = Unit {0}
+IsSound told s (Stepped drive moment heard seen) = IsSoundStep told s drive moment heard seen
+
+-- all that happens keeps it
+abbrev pub AreSound : {M : Type 0} → (M → Option TapeRecords) → RunState → List Happening → Type 0
+AreSound told s [] = Unit {0}
+AreSound told s (h ∷ hs) = IsSound told s h × AreSound told (run_behind s h) hs
+
+-- ---- runs
+
+-- a step in which no mismatch is met: neither the device nor the line tells of one, and what is read of a live job is done
+pub record IsReadRight (s : RunState) (drive moment : ℕ) (heard : Option Done) : Type 0 where
+  pub none : NoMismatch heard
+  pub silent : (l : StepLine) → line_at s drive moment heard ≡ Some l → says_mismatch l ≡ false
+  pub reads : ReadsDone s drive moment heard
+
+-- so is what happens, if it is a step of this drive
+abbrev pub IsRight : ℕ → RunState → Happening → Type 0
+IsRight d s (Answered link moment exchange) = Unit {0}
+IsRight d s (Stepped drive moment heard seen) = drive ≡ d → IsReadRight s drive moment heard
+
+-- in each step of this drive no mismatch is met
+abbrev pub ReadsRightly : ℕ → RunState → List Happening → Type 0
+ReadsRightly d s [] = Unit {0}
+ReadsRightly d s (h ∷ hs) = IsRight d s h × ReadsRightly d (run_behind s h) hs
+
+-- what a run from its start keeps, whichever calls fail: its history is legal; each tape has a true medium; jobs that a fault gives back are queued again, and a mount that
+-- ends leaves no live job behind; and where media always tell, a drive that is honest at first meets no mismatch
+pub record KeepsPromises {M : Type 0} (told : M → Option TapeRecords) (site : Site) (seen : List DriveView) (turns : List ScriptTurn) : Type 0 where
+  pub legal : IsLegal site (after (begun_with site seen) (all_happenings turns)).history
+  pub media : AllTapesHaveMedia told site (after (begun_with site seen) (all_happenings turns)).history
+  pub returned : ReturnsJobs site (after (begun_with site seen) (all_happenings turns)).history
+  pub left : LeavesNoJob site (after (begun_with site seen) (all_happenings turns)).history
+  pub honest : AlwaysTell told → (d : ℕ) (v : DriveView) → slice_get seen d ≡ Some v → v.honest ≡ true → ReadsRightly d (begun_with site seen) (all_happenings turns)
