@@ -136,7 +136,7 @@ asked_put : (e : Entry) (k : Ask) (path : List ℕ) → e.ask ≡ k → IsPutOf 
 asked_put e (ask.Put who q sum) path is put = refl
 asked_put e _ path is put = absurd put
 
-live_claimable : (site : Site) (h : History) → 1 ≤ site.limits.tries → IsLegal site h → (j : Job) → is_live_job site h j ≡ true → IsClaimable site h j
+pub live_claimable : (site : Site) (h : History) → 1 ≤ site.limits.tries → IsLegal site h → (j : Job) → is_live_job site h j ≡ true → IsClaimable site h j
 live_claimable site h some legal j live = (
     let put : HasPut h j.file (path_of h j.file) = job_file_has_put site h legal j live in
     record {

@@ -118,7 +118,7 @@ known_call k f g known (id ∷ ids) on = by (known id) refl (known_call k f g kn
     by true e rest = ap (λ (b : Bool). (id == k && g == f) || b) rest
     by false e rest = ap (λ (b : Bool). b || has_call k f (with_file g ids)) (no (id == k) (g == f) refl e) ∙ rest
 
-waits_call : (site : Site) (h : History) (v : Requests) (k f : ℕ) (recalls : ℕ → Option Recall) (fs : List ℕ) → is_some (request_in v k) ≡ true → ((g : ℕ) → recalls g ≡ live_recall site h g) → has_call k f (waits_for_all recalls fs) ≡ has_call k f (waiters site h v fs)
+pub waits_call : (site : Site) (h : History) (v : Requests) (k f : ℕ) (recalls : ℕ → Option Recall) (fs : List ℕ) → is_some (request_in v k) ≡ true → ((g : ℕ) → recalls g ≡ live_recall site h g) → has_call k f (waits_for_all recalls fs) ≡ has_call k f (waiters site h v fs)
 waits_call site h v k f recalls [] known same = refl
 waits_call site h v k f recalls (g ∷ fs) known same =
     list_any-append (λ (y : ℕ × ℕ). y.0 == k && y.1 == f) (with_file g (waiting_for (recalls g))) (waits_for_all recalls fs)

@@ -106,7 +106,7 @@ module _ (site : Site) (h : History) (t m : ℕ) (fault : Fault) (charged return
 
 -- ---- lists
 
-or_back : (a b : Bool) → b ≡ true → (a || b) ≡ true
+pub or_back : (a b : Bool) → b ≡ true → (a || b) ≡ true
 or_back true b e = refl
 or_back false b e = e
 
@@ -128,7 +128,7 @@ last_once (x ∷ xs) ys e = last_once xs ys (parts_none (has_job x (xs ++ ys)) (
 swap_same : (j x : Job) → same_job j x ≡ true → same_job x j ≡ true
 swap_same j x e = grind (arith, e)
 
-first_has : (a b : Bool) → a ≡ true → (a || b) ≡ true
+pub first_has : (a b : Bool) → a ≡ true → (a || b) ≡ true
 first_has true b e = refl
 first_has false b e = absurd (cc)
 
@@ -250,7 +250,7 @@ and_first false b e = absurd (cc)
 
 -- ---- queues
 
-jobs_map : (site : Site) (h : History) (way : Direction) (q : List Job) → jobs_of (map (line_of site h way) q) ≡ q
+pub jobs_map : (site : Site) (h : History) (way : Direction) (q : List Job) → jobs_of (map (line_of site h way) q) ≡ q
 jobs_map site h way [] = refl
 jobs_map site h way (j ∷ q) = ap (λ (js : List Job). j ∷ js) (jobs_map site h way q)
 

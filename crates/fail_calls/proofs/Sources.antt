@@ -111,12 +111,17 @@ else_same : (ps qs : List Place) → model.or_else ps qs ≡ or_else ps qs
 else_same [] qs = refl
 else_same (p ∷ ps) qs = refl
 
+-- the places of a file on tapes that are not BROKEN
+pub places_are : (of_copies : PlacesAreOfCopies) (on_site : PlacesAreOnSite) (site : Site) (h : History) (v : Table) (f : ℕ) → IsLegal site h → IsTable site h v → copies_of_file site h f ≤ 4
+    → places_of site h f ≡ somes (map (place_if is_whole v) (copies_in v f))
+places_are of_copies on_site site h v f legal is few =
+    ap (filter (λ (p : Place). not (is_broken (tape_state site h p.tape)))) (all_are of_copies site h v f (copies_of_file site h f) legal is.places refl few)
+    ∙ passing is_whole (λ (p : Place). not (is_broken (tape_state site h p.tape))) v (copies_in v f) (told_all on_site site h v is_whole f legal is)
+
 pub sources_are : (of_copies : PlacesAreOfCopies) (on_site : PlacesAreOnSite) (site : Site) (h : History) (v : Table) (f : ℕ) → IsLegal site h → IsTable site h v → copies_of_file site h f ≤ 4 → sources_of site h f ≡ sources_in v f
 sources_are of_copies on_site site h v f legal is few =
     let all : all_places site h f ≡ somes (copies_in v f) = all_are of_copies site h v f (copies_of_file site h f) legal is.places refl few in
-    let whole : places_of site h f ≡ somes (map (place_if is_whole v) (copies_in v f)) =
-    ap (filter (λ (p : Place). not (is_broken (tape_state site h p.tape)))) all
-    ∙ passing is_whole (λ (p : Place). not (is_broken (tape_state site h p.tape))) v (copies_in v f) (told_all on_site site h v is_whole f legal is) in
+    let whole : places_of site h f ≡ somes (map (place_if is_whole v) (copies_in v f)) = places_are of_copies on_site site h v f legal is few in
     let read : filter (λ (p : Place). may_be_read (tape_state site h p.tape)) (places_of site h f) ≡ somes (map (place_if may_be_read v) (copies_in v f)) =
     read_whole site h (all_places site h f)
     ∙ ap (filter (λ (p : Place). may_be_read (tape_state site h p.tape))) all

@@ -62,8 +62,9 @@ pub(crate) fn charge_all(book: &mut JobBook, jobs: &[Job], charge: Charge)
     }
 }
 
-// Jobs end.
-pub(crate) fn end_all(book: &mut JobBook, jobs: &[Job])
+/// Jobs end: their copies have no live job any more. It takes no memory; its cost is the number of jobs, and of entries that waited for
+/// recalls among them. This project's own.
+pub fn end_all(book: &mut JobBook, jobs: &[Job])
     ensures { TellSame (book_in book.new.value) (said.end_jobs jobs.now (book_in book.old.value)) }
 {
     for job in jobs {

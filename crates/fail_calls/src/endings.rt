@@ -64,12 +64,9 @@ fn add_waiters(
     add_pairs(ids.as_slice(), file, out)
 }
 
-// The entries that wait for the recalls of the files of jobs, each with the file. NoMemory gives nothing.
-pub(crate) fn waiters_of(
-    alloc: Global,
-    book: &JobBook,
-    jobs: &[Job],
-) -> Result<Vec<(u32, u32)>, NoMemory>
+/// The entries that wait for the recalls of the files of jobs, each with the file, by job and then oldest first. NoMemory gives nothing. Its
+/// cost is the number of these entries. This project's own.
+pub fn waiters_of(alloc: Global, book: &JobBook, jobs: &[Job]) -> Result<Vec<(u32, u32)>, NoMemory>
     requires { (f : ℕ) → length (said.waiting_for ((book_in book.now.value).recall f)) < 2 ^ 32 }
     ensures { IfOk result (λ pairs. pairs.items ≡ waits_for_all (book_in book.now.value).recall (job_files jobs.now)) }
 {
@@ -127,8 +124,9 @@ fn fail_items(repacks: &mut RepackBook, id: u32, file: u32, copies: u8)
     fail_items(repacks, id, file, copies - 1);
 }
 
-// The items of the files have failed in the repacks among those that wait.
-pub(crate) fn fail_readers(repacks: &mut RepackBook, pairs: &[(u32, u32)])
+/// The live items of these files are FAILED in those of these entries that are repacks. It takes no memory; its cost is the number of
+/// entries, each with the logarithm of the number of live items of repacks. This project's own.
+pub fn fail_readers(repacks: &mut RepackBook, pairs: &[(u32, u32)])
     ensures repacks { RepacksAgree (repacks_of repacks.new) (set_states item.Failed (pair_targets pairs.now) (repacks_of repacks.old)) }
     ensures names { NamesAgree repacks.new repacks.old }
 {

@@ -13,5 +13,9 @@ mod texts;
 mod writes;
 mod writes_back;
 
+pub use charges::end_all;
+pub use endings::{fail_readers, waiters_of};
 pub use reads::fail_reads;
+pub use reads_back::{queue_reads, source_of};
 pub use writes::fail_writes;
+pub use writes_back::queue_writes;

@@ -41,9 +41,9 @@ fn source_count(tapes: &TapeFiles, file: u32) -> u8
     4
 }
 
-// The tape that a recall is read from: that of the source whose number is the number of its charges, counted round. None where its file has
-// no source.
-fn source_of(tapes: &TapeFiles, book: &JobBook, job: Job) -> Option<u32>
+/// The tape that a recall is read from: that of the source whose number is the number of its charges, counted round. None exactly where its
+/// file has no source. In constant time. This project's own.
+pub fn source_of(tapes: &TapeFiles, book: &JobBook, job: Job) -> Option<u32>
     ensures tape { result ≡ source_in tapes.now.value (book_in book.now.value) job }
 {
     let count = source_count(tapes, job.file);
@@ -81,8 +81,9 @@ fn queue_read(
     recalls.add(key, line.job, line.len, line.born, line.priority, line.age);
 }
 
-// Of these recalls those that are live are put into the queues of the tapes that they are read from.
-pub(crate) fn queue_reads(
+/// Of these recalls those that are live are put into the queues of the tapes that they are read from, each at its place in order of birth.
+/// It takes no memory; its cost is the number of recalls, each with the logarithm of the number of lines of its queue. This project's own.
+pub fn queue_reads(
     site: &ValidSite,
     history: &KeptHistory,
     tapes: &TapeFiles,

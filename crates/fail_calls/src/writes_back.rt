@@ -42,8 +42,9 @@ fn queue_write(site: &ValidSite, history: &KeptHistory, pools: &mut ArchiveQueue
     pools.add(key, line.job, line.len, line.born, line.priority, line.age);
 }
 
-// Of these archive jobs those that are live are put into the queues of their pools.
-pub(crate) fn queue_writes(
+/// Of these archive jobs those that are live are put into the queues of their pools, each at its place in order of birth. It takes no memory;
+/// its cost is the number of jobs, each with the logarithm of the number of lines of its queue. This project's own.
+pub fn queue_writes(
     site: &ValidSite,
     history: &KeptHistory,
     book: &JobBook,

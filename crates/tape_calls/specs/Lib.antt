@@ -1,0 +1,4 @@
+pub mod Items
+pub mod Losses
+pub mod Texts
+pub mod Takings
