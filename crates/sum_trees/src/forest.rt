@@ -48,7 +48,10 @@ fn empty_roots(alloc: Global, trees: u32) -> Result<Vec<u32>, NoMemory>
     Ok(roots)
 }
 
-// Makes room for so many more nodes, and where the vector grows, for a thirty-second of those that there are.
+// The least number of nodes by which a vector grows, so that a small forest does not move its nodes at every other item.
+const LEAST_STEP: usize = 256;
+
+// Makes room for so many more nodes; where the vector grows, for a thirty-second of those that there are, and for the least step.
 fn grow<N>(nodes: &mut Vec<N>, wanted: usize) -> Result<(), NoMemory>
     ensures items { nodes.new.items ≡ nodes.old.items }
     ensures len { vec_len nodes.new ≡ vec_len nodes.old }
@@ -59,7 +62,7 @@ fn grow<N>(nodes: &mut Vec<N>, wanted: usize) -> Result<(), NoMemory>
     if wanted <= nodes.capacity() - count {
         return Ok(());
     }
-    nodes.reserve_exact(wanted.max(count / 32))?;
+    nodes.reserve_exact(wanted.max(count / 32).max(LEAST_STEP))?;
     Ok(())
 }
 
@@ -80,9 +83,9 @@ impl<T: Summed> Forest<T> {
     }
 
     /// Makes room for at least this many more items, and never makes the room smaller. NoMemory changes no item; it is the
-    /// answer too where there would be more than 2^32 - 1 nodes. Where the vector grows, it grows by at least a thirty-second
-    /// of its nodes and no further than that or what was asked for. Its cost is the number of items where the vector grows, and
-    /// else constant, so that room for items one by one costs a constant for each on average.
+    /// answer too where there would be more than 2^32 - 1 nodes. Where the vector grows, it grows by the most of what was asked
+    /// for, a thirty-second of its nodes, and 256 nodes. Its cost is the number of items where the vector grows, and else
+    /// constant, so that room for items one by one costs a constant for each on average.
     pub fn reserve(&mut self, more: u32) -> Result<(), NoMemory>
         ensures trees { self.new.trees ≡ self.old.trees }
         ensures room { OnOk result (more ≤ self.new.room) }
