@@ -9,21 +9,20 @@ use Rattle.cta_model.specs.declared.asks.Ask.TheVariants as ask
 use Rattle.cta_model.specs.declared.answers.Answer.{Answer}
 use Rattle.cta_model.specs.declared.hands.Hand.{Hand}
 use Rattle.cta_model.specs.History.{History}
-use Rattle.cta_model.specs.Answers.{is_accepted}
+use Rattle.cta_model.specs.Answers.{answer_of, is_accepted}
 use Rattle.cta_model.specs.Bare.{bare_answer, bare_ask}
 use Rattle.cta_model.specs.Hands.{HandBack, HandOut}
 use Rattle.cta_model.specs.Kept.{Kept, kept_after}
 use Rattle.cta_model.specs.Legal.{new_entry}
-use Rattle.served.specs.Served.{served_answer}
 use Rattle.archive_turns.specs.declared.calls.ArchiveCall.TheVariants as call
 use Rattle.archive_turns.specs.declared.calls.ArchiveBack.TheVariants as back
 use Rattle.archive_turns.specs.Plays.{Returns}
 
 -- ---- an ask with no room to spare in its lists is answered as the ask itself
 
-served_answer-bare : (site : Site) (h : History) (t : ℕ) (k : Ask) → served_answer site h t (bare_ask k) ≡ served_answer site h t k
-served_answer-bare site h t (ask.Flushed m items) = refl
-served_answer-bare site h t _ = refl
+answer_of-bare : (site : Site) (h : History) (t : ℕ) (k : Ask) → answer_of site h t (bare_ask k) ≡ answer_of site h t k
+answer_of-bare site h t (ask.Flushed m items) = refl
+answer_of-bare site h t _ = refl
 
 -- ---- what is kept
 
@@ -45,12 +44,12 @@ module _ {M : Type 0} (told : M → Option TapeRecords) where
   -- ---- what comes back
 
   pub asked : (before after : Kept) (t : ℕ) (k : Ask) (in_hand : Hand M) (r : Result (Answer × Hand M) (NoMemory × Ask × Hand M)) →
-      IfOk r (λ x. bare_answer x.0 ≡ served_answer before.site before.history t (bare_ask k)) →
+      IfOk r (λ x. bare_answer x.0 ≡ answer_of before.site before.history t (bare_ask k)) →
       IfOk r (λ x. after ≡ kept_after before t (bare_ask k) (bare_answer x.0)) →
       IfOk r (λ x. HandBack told (is_accepted (bare_answer x.0)) before.history after.history (bare_ask k) (bare_answer x.0) in_hand x.1) →
       IfErr r (λ e. (e.1 ≡ k) × (e.2 ≡ in_hand)) → OnErr r (after ≡ before) → Returns told before.site before.history (call.Ask t k in_hand) (back.Ask r) after.history
   asked before after t k in_hand (Ok (a, out)) answered kept handed again same = record {
-    answered = answered ∙ served_answer-bare before.site before.history t k;
+    answered = answered ∙ answer_of-bare before.site before.history t k;
     left = ap (λ (x : Kept). x.history) kept ∙ entry_or_none (is_accepted (bare_answer a)) before t (bare_ask k) (bare_answer a);
     handed = back-bare (is_accepted (bare_answer a)) before.history after.history k (bare_answer a) in_hand out handed;
   }

@@ -2,10 +2,12 @@
 ghost use Rattle.std.specs.Prelude.{◌≡◌, [], IfOk};
 ghost use Rattle.cta_model.specs.Legal.{IsLegal};
 ghost use Rattle.core_files.specs.Kept.{AreFirstMedia, TapesHaveMedia};
+ghost use Rattle.history_laws.specs.Holding.{HoldsLaws};
 
 use core_files::KeptState;
 use cta_model::{NoMemory, Told};
 use cta_site::ValidSite;
+use history_laws::legal_histories_hold;
 use std::alloc::Global;
 use std::hash::RandomState;
 use std::marker::Model;
@@ -58,6 +60,16 @@ impl<M: Told + Drop> Archive<M> {
         ensures { IsLegal self.now.site self.now.history }
     {
         self.state.keeps_history();
+    }
+
+    /// That the laws of the archive hold of the history, whatever was asked: a file is said to be on tape only where each copy was flushed,
+    /// and no file is lost; a recall ends at most once; a live job is queued once or claimed once; each Next mounted the choice within the
+    /// quotas; and no copy is lost, through repacks too. A law, which does nothing when it runs.
+    pub fn holds_laws(&self)
+        ensures { HoldsLaws self.now.site self.now.history }
+    {
+        legal_histories_hold();
+        self.keeps_history();
     }
 
     /// That each tape of the site that no open mount has has a medium, which is true for the history where it tells its records: a law,

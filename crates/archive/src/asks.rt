@@ -1,5 +1,5 @@
 // Asks.
-ghost use Rattle.std.specs.Prelude.{◌≡◌, ◌≤◌, IfOk, IfErr, OnErr, true};
+ghost use Rattle.std.specs.Prelude.{◌≡◌, ◌≤◌, IfOk, IfErr, OnErr};
 ghost use Rattle.cta_model.specs.declared.asks.Ask.TheVariants as ask;
 ghost use Rattle.cta_model.specs.declared.asks.Direction.TheVariants as direction;
 ghost use Rattle.cta_model.specs.Answers.{answer_of, is_accepted};
@@ -8,40 +8,15 @@ ghost use Rattle.cta_model.specs.Hands.{HandBack, HandIn};
 ghost use Rattle.cta_model.specs.Kept.{kept_after};
 ghost use Rattle.cta_model.specs.Legal.{IsEndFault, IsFit, IsMount, IsMountOf, greatest_moment};
 ghost use Rattle.cta_model.specs.Mounts.{mount_of};
-ghost use Rattle.served.specs.Served.{is_built, served_answer};
 
 use crate::archive::Archive;
 use blob::Sum256;
-use core_admin::{drive_down, drive_up, retry};
+use core_admin::{drive_down, drive_up, reclaim, repack, retry, set_tape_state};
 use core_drive::{claim, end, failed, flushed, next, recalled};
 use core_files::{KeptState, delete, put};
 use core_stage::{cancel, drop_request, release, stage};
-use cta_model::{Answer, Ask, Fault, Hand, Job, NoMemory, Refusal, Told, Who};
+use cta_model::{Answer, Ask, Fault, Hand, Job, NoMemory, Told, Who};
 use cta_site::Text;
-
-// Whether an ask is served.
-fn is_built(ask: &Ask) -> bool
-    ensures { result ≡ is_built (bare_ask ask.now) }
-{
-    match ask {
-        Ask::Put { .. } => true,
-        Ask::Delete { .. } => true,
-        Ask::Stage { .. } => true,
-        Ask::Cancel { .. } => true,
-        Ask::DropStage { .. } => true,
-        Ask::Release { .. } => true,
-        Ask::Next { .. } => true,
-        Ask::Claim { .. } => true,
-        Ask::Flushed { .. } => true,
-        Ask::Recalled { .. } => true,
-        Ask::Failed { .. } => true,
-        Ask::End { .. } => true,
-        Ask::DriveUp { .. } => true,
-        Ask::DriveDown { .. } => true,
-        Ask::Retry { .. } => true,
-        _ => false,
-    }
-}
 
 // A Put with its hand, which is its content.
 fn put_with<M: Told + Drop>(
@@ -113,64 +88,15 @@ fn end_with<M: Told + Drop>(
     }
 }
 
-// An ask that is served.
-fn served<M: Told + Drop>(
-    state: &mut KeptState<M>,
-    at: u64,
-    ask: Ask,
-    hand: Hand<M>,
-) -> Result<(Answer, Hand<M>), (NoMemory, Ask, Hand<M>)>
-    requires at { at ≤ greatest_moment }
-    requires built { is_built (bare_ask ask) ≡ true }
-    requires fit { IsFit state.old.site state.old.history ask }
-    requires hand { HandIn M.told state.old.history ask hand }
-    ensures answer { IfOk result (λ r. bare_answer r.0 ≡ answer_of state.old.site state.old.history at (bare_ask ask)) }
-    ensures kept { IfOk result (λ r. state.new ≡ kept_after state.old at (bare_ask ask) (bare_answer r.0)) }
-    ensures hand { IfOk result (λ r. HandBack M.told (is_accepted (bare_answer r.0)) state.old.history state.new.history (bare_ask ask) (bare_answer r.0) hand r.1) }
-    ensures back { IfErr result (λ e. (e.1 ≡ ask) × (e.2 ≡ hand)) }
-    ensures same { OnErr result (state.new ≡ state.old) }
-{
-    match ask {
-        Ask::Put { who, path, sum } => put_with(state, at, who, path, sum, hand),
-        Ask::Delete { who, path } => delete(state, at, who, path),
-        Ask::Stage { who, files } => stage(state, at, who, files),
-        Ask::Cancel { who, id, paths } => cancel(state, at, who, id, paths),
-        Ask::DropStage { who, id } => drop_request(state, at, who, id),
-        Ask::Release { who, id, paths } => release(state, at, who, id, paths),
-        Ask::Next { drive } => next(state, at, drive),
-        Ask::Claim { mount } => claim(state, at, mount),
-        Ask::Flushed { mount, items } => flushed(state, at, mount, items),
-        Ask::Recalled { mount, job } => recalled_with(state, at, mount, job, hand),
-        Ask::Failed {
-            mount,
-            fault,
-            charged,
-            returned,
-        } => failed(state, at, mount, fault, charged, returned),
-        Ask::End { mount, fault } => end_with(state, at, mount, fault, hand),
-        Ask::DriveUp { who, drive } => drive_up(state, at, who, drive),
-        Ask::DriveDown { who, drive } => drive_down(state, at, who, drive),
-        Ask::Retry { who, paths } => retry(state, at, who, paths),
-        _ => unreachable!(),
-    }
-}
-
 impl<M: Told + Drop> Archive<M> {
-    /// Whether an ask is served so far, in constant time.
-    pub fn serves(&self, ask: &Ask) -> bool
-        ensures { result ≡ is_built (bare_ask ask.now) }
-    {
-        is_built(ask)
-    }
-
     /// Answers an ask at this moment, in seconds since 1970, or at the last entry's where that is later, with the hand that belongs to it.
     ///
-    /// The answer is the sequential archive's on the history, where the ask is one that is served, and otherwise the refusal `NotBuilt`.
-    /// An accepted ask appends its one entry, and the hand of its answer comes out. Any other changes nothing, and its hand comes back.
-    /// After NoMemory nothing has changed, and the ask and the hand come back.
+    /// The answer is the sequential archive's on the history. An accepted ask appends its one entry, and the hand of its answer comes out.
+    /// One that is refused changes nothing, and its hand comes back. After NoMemory nothing has changed, and the ask and the hand come back.
     ///
     /// A session asks only what a session may: a Next of a drive of the site, and all else of a mount of the history. Its cost is that of
-    /// the call of the core that serves the ask; none is linear in the archive.
+    /// the call of the core for the ask. None goes through the history or through all files; a TapeState and a Repack go through the
+    /// live copies on their tape.
     pub fn ask(
         &mut self,
         at: u64,
@@ -180,15 +106,42 @@ impl<M: Told + Drop> Archive<M> {
         requires at { at ≤ greatest_moment }
         requires fit { IsFit self.old.site self.old.history ask }
         requires hand { HandIn M.told self.old.history ask hand }
-        ensures answer { IfOk result (λ r. bare_answer r.0 ≡ served_answer self.old.site self.old.history at (bare_ask ask)) }
+        ensures answer { IfOk result (λ r. bare_answer r.0 ≡ answer_of self.old.site self.old.history at (bare_ask ask)) }
         ensures kept { IfOk result (λ r. self.new ≡ kept_after self.old at (bare_ask ask) (bare_answer r.0)) }
         ensures hand { IfOk result (λ r. HandBack M.told (is_accepted (bare_answer r.0)) self.old.history self.new.history (bare_ask ask) (bare_answer r.0) hand r.1) }
         ensures back { IfErr result (λ e. (e.1 ≡ ask) × (e.2 ≡ hand)) }
         ensures same { OnErr result (self.new ≡ self.old) }
     {
-        if !is_built(&ask) {
-            return Ok((Answer::Refused(Refusal::NotBuilt), hand));
+        match ask {
+            Ask::Put { who, path, sum } => put_with(&mut self.state, at, who, path, sum, hand),
+            Ask::Delete { who, path } => delete(&mut self.state, at, who, path),
+            Ask::Stage { who, files } => stage(&mut self.state, at, who, files),
+            Ask::Cancel { who, id, paths } => cancel(&mut self.state, at, who, id, paths),
+            Ask::DropStage { who, id } => drop_request(&mut self.state, at, who, id),
+            Ask::Release { who, id, paths } => release(&mut self.state, at, who, id, paths),
+            Ask::Next { drive } => next(&mut self.state, at, drive),
+            Ask::Claim { mount } => claim(&mut self.state, at, mount),
+            Ask::Flushed { mount, items } => flushed(&mut self.state, at, mount, items),
+            Ask::Recalled { mount, job } => recalled_with(&mut self.state, at, mount, job, hand),
+            Ask::Failed {
+                mount,
+                fault,
+                charged,
+                returned,
+            } => failed(&mut self.state, at, mount, fault, charged, returned),
+            Ask::End { mount, fault } => end_with(&mut self.state, at, mount, fault, hand),
+            Ask::DriveUp { who, drive } => drive_up(&mut self.state, at, who, drive),
+            Ask::DriveDown { who, drive } => drive_down(&mut self.state, at, who, drive),
+            Ask::TapeState { who, tape, state } => set_tape_state(
+                &mut self.state,
+                at,
+                who,
+                tape,
+                state,
+            ),
+            Ask::Reclaim { who, tape } => reclaim(&mut self.state, at, who, tape),
+            Ask::Repack { who, tape } => repack(&mut self.state, at, who, tape),
+            Ask::Retry { who, paths } => retry(&mut self.state, at, who, paths),
         }
-        served(&mut self.state, at, ask, hand)
     }
 }

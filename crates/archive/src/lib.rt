@@ -1,5 +1,5 @@
 //! The archive: its site, its history of accepted asks, and all that stands for it. Each ask and each look is answered as the sequential
-//! archive of `cta_model` does on that history, as far as it is served, also in a turn of a hall.
+//! archive of `cta_model` does on that history, also in a turn of a hall.
 #![tactic(auto)]
 
 mod archive;

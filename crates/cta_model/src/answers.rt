@@ -106,6 +106,4 @@ pub enum Refusal {
     NoRepack,
     /// A session's ask that does not fit its mount. A session of this project never meets it.
     Unknown,
-    /// This ask or look is not served yet.
-    NotBuilt,
 }

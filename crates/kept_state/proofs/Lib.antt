@@ -13,3 +13,4 @@ mod NamedTwice
 mod KnownJobs
 mod Shelved
 mod FailedTold
+mod TapesTold

@@ -18,6 +18,7 @@ mod requests;
 mod sessions;
 mod stages;
 mod state;
+mod tapes;
 mod twice;
 
 pub use state::KeptState;

@@ -1,13 +1,11 @@
 -- What a session has asked, once it is answered.
 use Rattle.std.proofs.Common.{◌≡◌, ℕ, ◌≤◌, Bool, true, false, inl, inr, List, [], ◌∷◌, ◌++◌, refl, sym, ap, ◌∙◌, subst}
-use Rattle.std.specs.Prelude.{Option, Some, None, not}
+use Rattle.std.specs.Prelude.{Option, Some, None}
 use Rattle.std.proofs.lemmas.Option.{none-some, same_Some}
 use Rattle.blob.specs.Records.{TapeRecords}
 use Rattle.cta_site.specs.Listed.{Listed, rows}
-use Rattle.cta_site.specs.declared.site.Site.{Site}
 use Rattle.cta_model.specs.declared.answers.Answer.{Answer}
 use Rattle.cta_model.specs.declared.answers.Answer.TheVariants as answer
-use Rattle.cta_model.specs.declared.answers.Refusal.TheVariants as refusal
 use Rattle.cta_model.specs.declared.asks.Ask.{Ask}
 use Rattle.cta_model.specs.declared.asks.Ask.TheVariants as ask
 use Rattle.cta_model.specs.declared.asks.Direction.{Direction}
@@ -17,7 +15,7 @@ use Rattle.cta_model.specs.declared.asks.Job.{Job}
 use Rattle.cta_model.specs.declared.hands.Hand.{Hand}
 use Rattle.cta_model.specs.declared.hands.Hand.TheVariants as hand
 use Rattle.cta_model.specs.declared.states.Mount.{Mount}
-use Rattle.cta_model.specs.Answers.{answer_of, is_accepted, refuse}
+use Rattle.cta_model.specs.Answers.{answer_of, is_accepted}
 use Rattle.cta_model.specs.Bare.{bare_answer, bare_ask}
 use Rattle.cta_model.specs.Hands.{BatchHand, HandBack}
 use Rattle.cta_model.specs.History.{History}
@@ -35,7 +33,6 @@ use Rattle.drive_session.specs.Answers.{batch_by, claimed_state, is_asking, is_m
 use Rattle.drive_session.specs.Fits.{FitsAsk, FitsIn, FitsOpen, FitsResolved, FitsState, IsMountAt}
 use Rattle.drive_session.specs.Steps.{is_loaded_in}
 use Rattle.drive_session.specs.Table.{AnswersLeadByPhase, GoesWith, HeldMount, IsBatchHand, Phase, Free, Held, Leaving, Reading, Ready, Writing, claim_phase, line_by, next_phase, phase_after, phase_of}
-use Rattle.served.specs.Served.{is_built, served_answer}
 use Rattle.session_laws.specs.Laws.{AnsweredSessionFits, AsksAreFit, AsksAreKnown}
 use Rattle.replay.specs.Desk.{HasNoMount, IsAbout, IsAskedOf, IsFree, IsIdleFor}
 use Rattle.replay.proofs.Freed.{freed}
@@ -479,28 +476,6 @@ ask_about told h d s w (ask.Reclaim who v) q f = absurd f
 ask_about told h d s w (ask.Repack who v) q f = absurd f
 ask_about told h d s w (ask.Retry who paths) q f = absurd f
 
--- ---- what a session asks is served
-
-ask_served : {M : Type 0} (told : M → Option TapeRecords) (h : History) (d : ℕ) (s : State M) (w : Asked) (k : Ask) (q : Hand M) → FitsAsk told h d s w k q → is_built k ≡ true
-ask_served told h d s w (ask.Put who path sum) q f = absurd f
-ask_served told h d s w (ask.Delete who path) q f = absurd f
-ask_served told h d s w (ask.Stage who files) q f = absurd f
-ask_served told h d s w (ask.Cancel who id paths) q f = absurd f
-ask_served told h d s w (ask.DropStage who id) q f = absurd f
-ask_served told h d s w (ask.Release who id paths) q f = absurd f
-ask_served told h d s w (ask.Next n) q f = refl
-ask_served told h d s w (ask.Claim m) q f = refl
-ask_served told h d s w (ask.Flushed m items) q f = refl
-ask_served told h d s w (ask.Recalled m job) q f = refl
-ask_served told h d s w (ask.Failed m fault charged returned) q f = refl
-ask_served told h d s w (ask.End m fault) q f = refl
-ask_served told h d s w (ask.DriveUp who n) q f = absurd f
-ask_served told h d s w (ask.DriveDown who n) q f = absurd f
-ask_served told h d s w (ask.TapeState who v st) q f = absurd f
-ask_served told h d s w (ask.Reclaim who v) q f = absurd f
-ask_served told h d s w (ask.Repack who v) q f = absurd f
-ask_served told h d s w (ask.Retry who paths) q f = absurd f
-
 -- ---- an ask that was answered
 
 history_same : (kept : Kept) (t : ℕ) (k : Ask) (a : Answer) → a ≡ answer_of kept.site kept.history t k → (kept_after kept t k a).history ≡ history_after kept.site kept.history t k
@@ -510,9 +485,6 @@ history_same kept t k a e = rw e (by_cases (is_accepted (answer_of kept.site kep
     by_cases true e = rw (← e) refl
     by_cases false e = rw (← e) refl
 
-served_is : (site : Site) (h : History) (t : ℕ) (k : Ask) → is_built k ≡ true → served_answer site h t k ≡ answer_of site h t k
-served_is site h t k e = ap (λ b. refuse refusal.NotBuilt (not b) (answer_of site h t k)) e
-
 -- what a session asks is fit, with no room to spare too
 pub asks_fit : {M : Type 0} (told : M → Option TapeRecords) → AsksAreFit told → (kept : Kept) (m : Memo M) (k : Ask) (q : Hand M) → FitsOpen told kept.site kept.history m.number m.state m.asked k q → IsFit kept.site kept.history (bare_ask k)
 asks_fit told fits kept m k q asking =
@@ -520,15 +492,13 @@ asks_fit told fits kept m k q asking =
 
 module _ {M : Type 0} (told : M → Option TapeRecords) (fits : AsksAreFit told) (knows : AsksAreKnown told) (leads : AnsweredSessionFits told) (by_phase : AnswersLeadByPhase M) where
   pub asked_of : (kept now : Kept) (m m' : Memo M) (t : ℕ) (k : Ask) (q out : Hand M) (a : Answer) (l : StepLine) → IsLegal kept.site kept.history → t ≤ greatest_moment
-      → FitsOpen told kept.site kept.history m.number m.state m.asked k q → IsIdleFor kept.history m.number (bare_ask k) → bare_answer a ≡ served_answer kept.site kept.history t (bare_ask k)
+      → FitsOpen told kept.site kept.history m.number m.state m.asked k q → IsIdleFor kept.history m.number (bare_ask k) → bare_answer a ≡ answer_of kept.site kept.history t (bare_ask k)
       → now ≡ kept_after kept t (bare_ask k) (bare_answer a) → now.site ≡ kept.site → HandBack told (is_accepted (bare_answer a)) kept.history now.history (bare_ask k) (bare_answer a) q out
       → l ≡ line_after m.asked m.state a out → m' ≡ record m { state = state_after m.asked m.state a out; asked = asked.Nothing l } → m.kept ≡ None → is_memory l ≡ false
       → IsAskedOf told kept now m m' t (bare_ask k) l
-  asked_of kept now m m' t k q out a l legal low asking idle is keeps site back line memo none memory =
+  asked_of kept now m m' t k q out a l legal low asking idle answered keeps site back line memo none memory =
       let asks : FitsAsk told kept.history m.number m.state m.asked (bare_ask k) q = open_bare told kept.history m.number m.state m.asked k q asking.asked in
       let asking' : FitsOpen told kept.site kept.history m.number m.state m.asked (bare_ask k) q = record { known = asking.known; asked = asks } in
-      let built : is_built (bare_ask k) ≡ true = ask_served told kept.history m.number m.state m.asked (bare_ask k) q asks in
-      let answered : bare_answer a ≡ answer_of kept.site kept.history t (bare_ask k) = is ∙ served_is kept.site kept.history t (bare_ask k) built in
       let grown : now.history ≡ history_after kept.site kept.history t (bare_ask k) = ap (λ (n : Kept). n.history) keeps ∙ history_same kept t (bare_ask k) (bare_answer a) answered in
       let back' = subst (λ x. HandBack told (is_accepted x) kept.history (history_after kept.site kept.history t (bare_ask k)) (bare_ask k) x q out) answered
       (subst (λ h. HandBack told (is_accepted (bare_answer a)) kept.history h (bare_ask k) (bare_answer a) q out) grown back) in

@@ -4,6 +4,7 @@ use Rattle.std.specs.Prelude.{Option, None, Some, map}
 use Rattle.std.specs.List.{AllByRecursion}
 use Rattle.std.proofs.lemmas.Bool.{cases_Bool}
 use Rattle.cta_site.specs.declared.site.Site.{Site}
+use Rattle.cta_model.specs.History.{History}
 use Rattle.cta_model.specs.Kept.{Kept, KeepsLegal, kept_after, history_after}
 use Rattle.cta_model.specs.Legal.{IsFit, IsLegal, greatest_moment}
 use Rattle.cta_model.specs.Answers.{answer_of, is_accepted}
@@ -11,7 +12,6 @@ use Rattle.cta_model.specs.declared.asks.Ask.{Ask}
 use Rattle.cta_model.specs.declared.asks.Ask.TheVariants as ask
 use Rattle.drive_session.specs.Table.{Row}
 use Rattle.media.specs.Drives.{DriveView}
-use Rattle.served.specs.Served.{served_answer}
 use Rattle.conn.specs.Cut.{Event, Continues, Requests, Refuses}
 use Rattle.tape_routes.specs.Asked.{Asked, Asks, Looks, Replies, asked}
 use Rattle.tape_routes.specs.Answering.{kept_then, request_keeps}
@@ -32,9 +32,19 @@ abbrev pub IsTimely : Happening → Type 0
 IsTimely (Answered link moment exchange) = moment ≤ greatest_moment
 IsTimely (Stepped drive moment done seen) = moment ≤ greatest_moment
 
+-- what a caller asks is fit
+caller_fits : (site : Site) (h : History) (k : Ask) (sent : Option (List ℕ)) → IsCallers (Asks k sent) → IsFit site h k
+caller_fits site h (ask.Next d) sent fit = absurd fit
+caller_fits site h (ask.Claim m) sent fit = absurd fit
+caller_fits site h (ask.Flushed m items) sent fit = absurd fit
+caller_fits site h (ask.Recalled m job) sent fit = absurd fit
+caller_fits site h (ask.Failed m fault charged returned) sent fit = absurd fit
+caller_fits site h (ask.End m fault) sent fit = absurd fit
+caller_fits site h _ sent fit = tt
+
 module _ (keeps : KeepsLegal) (callers : CallersAsk) where
-  served_keeps : (k : Kept) (t : ℕ) (asks : Ask) → IsLegal k.site (history_after k.site k.history t asks) → IsLawful (kept_after k t asks (answer_of k.site k.history t asks))
-  served_keeps k t asks legal =
+  answered_keeps : (k : Kept) (t : ℕ) (asks : Ask) → IsLegal k.site (history_after k.site k.history t asks) → IsLawful (kept_after k t asks (answer_of k.site k.history t asks))
+  answered_keeps k t asks legal =
       elim (cases_Bool (is_accepted (answer_of k.site k.history t asks))) [
         | inl hit ↦ rw hit (rw hit at legal)
         | inr miss ↦ rw miss (rw miss at legal)
@@ -44,27 +54,10 @@ module _ (keeps : KeepsLegal) (callers : CallersAsk) where
   step_keeps : (k : Kept) (t : ℕ) (asks : Ask) → IsFit k.site k.history asks → t ≤ greatest_moment → IsLawful k → IsLegal k.site (kept_after k t asks (answer_of k.site k.history t asks)).history
   step_keeps k t asks fit low legal =
       subst (λ s. IsLegal s (kept_after k t asks (answer_of k.site k.history t asks)).history) (kept_after-site k t asks (answer_of k.site k.history t asks))
-      (served_keeps k t asks (keeps k.site k.history t asks legal low fit))
+      (answered_keeps k t asks (keeps k.site k.history t asks legal low fit))
 
-  pub ask_keeps : (k : Kept) (t : ℕ) (asks : Ask) (sent : Option (List ℕ)) → IsCallers (Asks asks sent) → t ≤ greatest_moment → IsLawful k → IsLawful (kept_after k t asks (served_answer k.site k.history t asks))
-  ask_keeps k t (ask.Put who path sum) sent fit low legal = served_keeps k t (ask.Put who path sum) (keeps k.site k.history t (ask.Put who path sum) legal low tt)
-  ask_keeps k t (ask.Delete who path) sent fit low legal = served_keeps k t (ask.Delete who path) (keeps k.site k.history t (ask.Delete who path) legal low tt)
-  ask_keeps k t (ask.Stage who files) sent fit low legal = served_keeps k t (ask.Stage who files) (keeps k.site k.history t (ask.Stage who files) legal low tt)
-  ask_keeps k t (ask.Cancel who id paths) sent fit low legal = served_keeps k t (ask.Cancel who id paths) (keeps k.site k.history t (ask.Cancel who id paths) legal low tt)
-  ask_keeps k t (ask.DropStage who id) sent fit low legal = served_keeps k t (ask.DropStage who id) (keeps k.site k.history t (ask.DropStage who id) legal low tt)
-  ask_keeps k t (ask.Release who id paths) sent fit low legal = served_keeps k t (ask.Release who id paths) (keeps k.site k.history t (ask.Release who id paths) legal low tt)
-  ask_keeps k t (ask.Next d) sent fit low legal = absurd fit
-  ask_keeps k t (ask.Claim m) sent fit low legal = absurd fit
-  ask_keeps k t (ask.Flushed m items) sent fit low legal = absurd fit
-  ask_keeps k t (ask.Recalled m job) sent fit low legal = absurd fit
-  ask_keeps k t (ask.Failed m fault charged returned) sent fit low legal = absurd fit
-  ask_keeps k t (ask.End m fault) sent fit low legal = absurd fit
-  ask_keeps k t (ask.DriveUp who d) sent fit low legal = served_keeps k t (ask.DriveUp who d) (keeps k.site k.history t (ask.DriveUp who d) legal low tt)
-  ask_keeps k t (ask.DriveDown who d) sent fit low legal = served_keeps k t (ask.DriveDown who d) (keeps k.site k.history t (ask.DriveDown who d) legal low tt)
-  ask_keeps k t (ask.TapeState who v s) sent fit low legal = legal
-  ask_keeps k t (ask.Reclaim who v) sent fit low legal = legal
-  ask_keeps k t (ask.Repack who v) sent fit low legal = legal
-  ask_keeps k t (ask.Retry who paths) sent fit low legal = served_keeps k t (ask.Retry who paths) (keeps k.site k.history t (ask.Retry who paths) legal low tt)
+  pub ask_keeps : (k : Kept) (t : ℕ) (asks : Ask) (sent : Option (List ℕ)) → IsCallers (Asks asks sent) → t ≤ greatest_moment → IsLawful k → IsLawful (kept_after k t asks (answer_of k.site k.history t asks))
+  ask_keeps k t asks sent fit low legal = answered_keeps k t asks (keeps k.site k.history t asks legal low (caller_fits k.site k.history asks sent fit))
 
   pub then_keeps : (k : Kept) (t : ℕ) (x : Asked) → IsCallers x → t ≤ greatest_moment → IsLawful k → IsLawful (kept_then k t x)
   unfolding kept_then

@@ -3,7 +3,7 @@ pub mod Numbers
 pub mod Parts
 pub mod Drives
 pub mod Callers
-pub mod Served
+pub mod ForCallers
 pub mod Taking
 pub mod Writing
 pub mod Delivering

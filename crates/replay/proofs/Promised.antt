@@ -7,7 +7,7 @@ use Rattle.std.proofs.lemmas.Option.{none-some, same_Some}
 use Rattle.blob.specs.Records.{TapeRecords}
 use Rattle.cta_model.specs.declared.asks.Ask.{Ask}
 use Rattle.cta_model.specs.declared.asks.Ask.TheVariants as ask
-use Rattle.cta_model.specs.Answers.{is_accepted}
+use Rattle.cta_model.specs.Answers.{answer_of, is_accepted}
 use Rattle.cta_model.specs.History.{History}
 use Rattle.cta_model.specs.Kept.{Kept, KeepsLegal, kept_after}
 use Rattle.cta_model.specs.Legal.{IsLegal, greatest_moment, new_entry}
@@ -18,10 +18,10 @@ use Rattle.conn.specs.Cut.{Event, Continues, Requests, Refuses}
 use Rattle.drive_session.specs.Steps.{NoMismatch}
 use Rattle.drive_session.specs.Table.{Free, Row}
 use Rattle.media.specs.Drives.{DriveView}
-use Rattle.served.specs.Served.{served_answer}
 use Rattle.tape_routes.specs.Asked.{Asked, Asks, Looks, Replies, asked}
 use Rattle.tape_routes.specs.Answering.{kept_then, request_keeps}
 use Rattle.tape_routes.specs.Callers.{CallersAsk, IsCallers}
+use Rattle.history_laws.proofs.Held.{legal_histories_hold}
 use Rattle.replay.specs.Laws.{LiveReadsAreDone, RunsKeepPromises}
 use Rattle.replay.specs.Output.{AskFitly, after, event_keeps, run_behind}
 use Rattle.replay.specs.Promises.{AllTapesHaveMedia, AlwaysTell, AreSound, HaveMediaBehind, ReadsRightly}
@@ -55,9 +55,9 @@ module _ {M : Type 0} (told : M → Option TapeRecords) (keeps : KeepsLegal) (ca
   abbrev HaveMedia : Kept → Type 0
   HaveMedia k = AllTapesHaveMedia told k.site k.history
 
-  ask_media : (k : Kept) (t : ℕ) (x : Ask) (sent : Option (List ℕ)) → IsCallers (Asks x sent) → t ≤ greatest_moment → IsLawful k → HaveMedia k → AllTapesHaveMedia told k.site (kept_after k t x (served_answer k.site k.history t x)).history
+  ask_media : (k : Kept) (t : ℕ) (x : Ask) (sent : Option (List ℕ)) → IsCallers (Asks x sent) → t ≤ greatest_moment → IsLawful k → HaveMedia k → AllTapesHaveMedia told k.site (kept_after k t x (answer_of k.site k.history t x)).history
   ask_media k t x sent fit low legal media =
-      let a = served_answer k.site k.history t x in
+      let a = answer_of k.site k.history t x in
       let now : IsLawful (kept_after k t x a) = ask_keeps keeps callers k t x sent fit low legal in
       let here : IsLegal k.site (kept_after k t x a).history = subst (λ s. IsLegal s (kept_after k t x a).history) (kept_after-site k t x a) now in
       elim (cases_Bool (is_accepted a)) [
@@ -155,6 +155,7 @@ promises_kept told keeps callers stays queued moves closed reads site seen recor
     let legal = legal_histories keeps callers site seen records turns each run fit in
     record {
       legal = legal;
+      laws = legal_histories_hold site (after (begun_with site seen) (all_happenings turns)).history legal;
       media = all_media told keeps callers stays (begun_with site seen) (all_happenings turns) sound (turns_timely site turns (subst (AllByRecursion _) (sym run.0) each)) tt media;
       returned = returns_jobs queued moves site (after (begun_with site seen) (all_happenings turns)).history legal;
       left = leaves_none closed queued site (after (begun_with site seen) (all_happenings turns)).history legal;

@@ -5,6 +5,7 @@ use Rattle.std.proofs.lemmas.Option.{none-some}
 use Rattle.blob.specs.Records.{TapeRecords}
 use Rattle.cta_model.specs.declared.asks.Ask.{Ask}
 use Rattle.cta_model.specs.declared.asks.Ask.TheVariants as ask
+use Rattle.cta_model.specs.Answers.{answer_of}
 use Rattle.cta_model.specs.Kept.{Kept, kept_after}
 use Rattle.cta_model.specs.Legal.{IsLegal}
 use Rattle.cta_model.specs.declared.answers.Answer.{Answer}
@@ -14,7 +15,6 @@ use Rattle.media.specs.Drives.{DriveView}
 use Rattle.wire_http.specs.declared.request.Request.{Request}
 use Rattle.drive_session.specs.declared.session.Memo.{Memo}
 use Rattle.session_laws.specs.Laws.{SessionStays}
-use Rattle.served.specs.Served.{served_answer}
 use Rattle.tape_routes.specs.Asked.{Asked, Asks, Looks, Replies, asked}
 use Rattle.tape_routes.specs.Answering.{IsReplyTo, kept_then, request_keeps}
 use Rattle.tape_routes.specs.Callers.{CallersAsk, IsCallers}
@@ -43,7 +43,7 @@ module _ {M : Type 0} (told : M → Option TapeRecords) (stays : SessionStays to
   then_manned : (now : Kept) (x : Asked) → IsCallers x → now ≡ kept_then kept t x → IsLegal now.site now.history → AreManned told kept.site kept.history ms vs → AreManned told now.site now.history ms vs
   unfolding kept_then
   then_manned now (Asks k content) caller is legal manned =
-      let a = served_answer kept.site kept.history t k in
+      let a = answer_of kept.site kept.history t k in
       let site : (kept_after kept t k a).site ≡ kept.site = kept_after-site kept t k a in
       let kept_legal : IsLegal (kept_after kept t k a).site (kept_after kept t k a).history = subst (λ (n : Kept). IsLegal n.site n.history) is legal in
       let all : AreManned told kept.site (kept_after kept t k a).history ms vs =

@@ -19,6 +19,7 @@ use Rattle.cta_laws.specs.Claims.{claimer_after}
 use Rattle.cta_laws.specs.Jobs.{ClaimerMoves, IsQueuedOrClaimed}
 use Rattle.cta_laws.specs.Mounts.{ClaimsNothingAfterEnd}
 use Rattle.media.specs.Drives.{DriveView}
+use Rattle.history_laws.proofs.Held.{legal_histories_hold}
 use Rattle.replay.specs.Promises.{AllTapesHaveMedia, KeepsPromises, LeavesNoJob, ReturnsJobs}
 
 legal_behind : (site : Site) (newer h : History) → IsLegal site (newer ++ h) → IsLegal site h
@@ -76,6 +77,7 @@ no_cut (x ∷ newer) older e cut = let no : [] ≡ x ∷ (newer ++ e ∷ older) 
 pub none_kept : {M : Type 0} (told : M → Option TapeRecords) (site : Site) (seen : List DriveView) → AllTapesHaveMedia told site [] → KeepsPromises told site seen []
 none_kept told site seen media = record {
   legal = tt;
+  laws = legal_histories_hold site [] tt;
   media = media;
   returned = λ newer older e m fault charged returned j cut asked named live. absurd (no_cut newer older e cut);
   left = λ newer older e m fault j cut asked live. absurd (no_cut newer older e cut);

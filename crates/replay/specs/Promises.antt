@@ -14,6 +14,7 @@ use Rattle.cta_model.specs.Kept.{Kept}
 use Rattle.cta_model.specs.Legal.{IsLegal}
 use Rattle.cta_model.specs.Media.{IsTrueWhereTold}
 use Rattle.cta_model.specs.Mounts.{has_job}
+use Rattle.history_laws.specs.Holding.{HoldsLaws}
 use Rattle.cta_laws.specs.Jobs.{IsClaimed, IsQueued}
 use Rattle.media.specs.Drives.{DriveView}
 use Rattle.drive_session.specs.declared.reports.Done.{Done}
@@ -128,10 +129,11 @@ abbrev pub ReadsRightly : ℕ → RunState → List Happening → Type 0
 ReadsRightly d s [] = Unit {0}
 ReadsRightly d s (h ∷ hs) = IsRight d s h × ReadsRightly d (run_behind s h) hs
 
--- what a run from its start keeps, whichever calls fail: its history is legal; each tape has a true medium; jobs that a fault gives back are queued again, and a mount that
+-- what a run from its start keeps, whichever calls fail: its history is legal, and the laws hold of it; each tape has a true medium; jobs that a fault gives back are queued again, and a mount that
 -- ends leaves no live job behind; and where media always tell, a drive that is honest at first meets no mismatch
 pub record KeepsPromises {M : Type 0} (told : M → Option TapeRecords) (site : Site) (seen : List DriveView) (turns : List ScriptTurn) : Type 0 where
   pub legal : IsLegal site (after (begun_with site seen) (all_happenings turns)).history
+  pub laws : HoldsLaws site (after (begun_with site seen) (all_happenings turns)).history
   pub media : AllTapesHaveMedia told site (after (begun_with site seen) (all_happenings turns)).history
   pub returned : ReturnsJobs site (after (begun_with site seen) (all_happenings turns)).history
   pub left : LeavesNoJob site (after (begun_with site seen) (all_happenings turns)).history

@@ -99,8 +99,7 @@ fn parts_for<D: TapeDrive + Drop, B: Bench<D>>(
     })
 }
 
-// Asks what a session asks, with what goes with it, and gives it the answer: the line that it leads to. What a session asks is
-// always served.
+// Asks what a session asks, with what goes with it, and gives it the answer: the line that it leads to.
 fn answered<D: TapeDrive>(
     archive: &mut Archive<D::Medium>,
     session: &mut Session<D>,

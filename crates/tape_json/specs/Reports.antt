@@ -178,7 +178,6 @@ refusal_text Refusals.LiveFiles = Some (codes "tape has live files")
 refusal_text Refusals.NotRepacking = Some (codes "tape is not repacking")
 refusal_text Refusals.RepackLive = Some (codes "repack is live")
 refusal_text Refusals.NoRepack = Some (codes "no such repack")
-refusal_text Refusals.NotBuilt = Some (codes "not built")
 refusal_text Refusals.Unknown = None
 
 -- an object with one member

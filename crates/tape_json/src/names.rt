@@ -82,7 +82,6 @@ pub(crate) fn refusal_text(refusal: Refusal) -> Option<&'static str>
         Refusal::NotRepacking => Some("tape is not repacking"),
         Refusal::RepackLive => Some("repack is live"),
         Refusal::NoRepack => Some("no such repack"),
-        Refusal::NotBuilt => Some("not built"),
         Refusal::Unknown => None,
     }
 }

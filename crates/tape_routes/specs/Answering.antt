@@ -3,8 +3,9 @@ use Rattle.std.specs.Prelude.{◌≡◌, ℕ, List, [], Bool, Option, Some, None
 use Rattle.blob.specs.Sums.{sum_of}
 use Rattle.blob.specs.declared.sum.Sum256.{Sum256}
 use Rattle.cta_site.specs.declared.site.Site.{Site}
-use Rattle.served.specs.Served.{served_answer, served_look}
+use Rattle.cta_model.specs.Answers.{answer_of}
 use Rattle.cta_model.specs.Kept.{Kept, kept_after}
+use Rattle.cta_model.specs.Looks.{look_answer_of}
 use Rattle.cta_model.specs.declared.answers.Answer.{Answer}
 use Rattle.cta_model.specs.declared.answers.Answer.TheVariants as answer
 use Rattle.wire_http.specs.declared.request.Request.{Request}
@@ -29,19 +30,19 @@ answer_view site a content close = reply_view (reply_for site a None close)
 
 -- the reply at a moment to what is asked, with this content: that to the archive's answer, or one that needs no archive
 unfoldable pub reply_to : Kept → ℕ → Bool → Asked → Option (List ℕ) → ReplyView
-reply_to kept moment close (Asks ask sent) content = answer_view kept.site (served_answer kept.site kept.history moment ask) content close
-reply_to kept moment close (Looks look) content = answer_view kept.site (served_look kept.site kept.history moment look) content close
+reply_to kept moment close (Asks ask sent) content = answer_view kept.site (answer_of kept.site kept.history moment ask) content close
+reply_to kept moment close (Looks look) content = answer_view kept.site (look_answer_of kept.site kept.history moment look) content close
 reply_to kept moment close (Replies reply) content = reply_view reply
 
 -- the content that goes out with the reply to what is asked: that of the archive's answer, and none where no archive is needed
 unfoldable pub FitsAsked : Kept → ℕ → Asked → Option (List ℕ) → Type 0
-FitsAsked kept moment (Asks ask sent) content = FitsAnswer (served_answer kept.site kept.history moment ask) content
-FitsAsked kept moment (Looks look) content = FitsAnswer (served_look kept.site kept.history moment look) content
+FitsAsked kept moment (Asks ask sent) content = FitsAnswer (answer_of kept.site kept.history moment ask) content
+FitsAsked kept moment (Looks look) content = FitsAnswer (look_answer_of kept.site kept.history moment look) content
 FitsAsked kept moment (Replies reply) content = content ≡ None
 
 -- what is kept then
 unfoldable pub kept_then : Kept → ℕ → Asked → Kept
-kept_then kept moment (Asks ask sent) = kept_after kept moment ask (served_answer kept.site kept.history moment ask)
+kept_then kept moment (Asks ask sent) = kept_after kept moment ask (answer_of kept.site kept.history moment ask)
 kept_then kept moment (Looks look) = kept
 kept_then kept moment (Replies reply) = kept
 

@@ -62,7 +62,6 @@ status_of refusal.NotRepacking = 409
 status_of refusal.RepackLive = 409
 status_of refusal.NoRepack = 404
 status_of refusal.Unknown = 500
-status_of refusal.NotBuilt = 501
 
 -- the text of each refusal; Unknown has none, since no caller gets it
 abbrev pub text_of : Refusal → List ℕ

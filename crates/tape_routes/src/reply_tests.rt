@@ -72,11 +72,11 @@ fn nothing(alloc: Global, site: &ValidSite) -> bool {
 
 fn refused(alloc: Global, site: &ValidSite) -> bool {
     let wanted =
-        "HTTP/1.1 501 Not Implemented\r\nContent-Type: application/json\r\nContent-Length: 21\r\n\r\n{\"error\":\"not built\"}";
+        "HTTP/1.1 409 Conflict\r\nContent-Type: application/json\r\nContent-Length: 27\r\n\r\n{\"error\":\"tape is mounted\"}";
     is_said(
         alloc,
         site,
-        &Answer::Refused(Refusal::NotBuilt),
+        &Answer::Refused(Refusal::TapeMounted),
         None,
         wanted,
     )

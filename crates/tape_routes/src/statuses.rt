@@ -23,7 +23,6 @@ pub(crate) fn status_of(refusal: Refusal) -> u16
         | Refusal::NotRepacking
         | Refusal::RepackLive => 409,
         Refusal::Unknown => 500,
-        Refusal::NotBuilt => 501,
         Refusal::HistoryFull => 503,
         Refusal::NoSpace => 507,
     }
@@ -52,6 +51,5 @@ pub(crate) fn text_of(refusal: Refusal) -> &'static str
         Refusal::RepackLive => "repack is live",
         Refusal::NoRepack => "no such repack",
         Refusal::Unknown => "",
-        Refusal::NotBuilt => "not built",
     }
 }

@@ -4,7 +4,7 @@ use Rattle.std.specs.Arc.{arc_value}
 use Rattle.cta_model.specs.Bare.{bare_ask}
 use Rattle.replay.proofs.Callers.{callers_fit, callers_hand}
 use Rattle.replay.proofs.Running.{kept_after-site}
-use Rattle.replay.proofs.Served.{serves_ask, ask_replied, ask_kept}
+use Rattle.replay.proofs.ForCallers.{ask_has_reply, ask_replied, ask_kept}
 use Rattle.replay.proofs.service.ask_reply.Goals as goal
 
 pub ask-requires-clause-fit : goal.ask-requires-clause-fit
@@ -14,10 +14,10 @@ pub ask-requires-clause-hand : goal.ask-requires-clause-hand
 ask-requires-clause-hand g c = rw c.hand_with.ensures (callers_hand g.M.Told.told c.args.archive.now.history c.args.ask c.args.content c.requires.caller)
 
 pub reply_of-requires-clause-caller : goal.reply_of-requires-clause-caller
-reply_of-requires-clause-caller g c = (serves_ask c.args.archive.now.site c.args.archive.now.history c.args.moment (bare_ask c.args.ask) (option_map arc_value c.args.content) c.in-Ok.answer c.requires.caller c.in-Ok.ensures.answer).callers
+reply_of-requires-clause-caller g c = (ask_has_reply c.args.archive.now.site c.args.archive.now.history c.args.moment (bare_ask c.args.ask) (option_map arc_value c.args.content) c.in-Ok.answer c.requires.caller c.in-Ok.ensures.answer).callers
 
 pub reply_of-requires-clause-content : goal.reply_of-requires-clause-content
-reply_of-requires-clause-content g c = (serves_ask c.args.archive.now.site c.args.archive.now.history c.args.moment (bare_ask c.args.ask) (option_map arc_value c.args.content) c.in-Ok.answer c.requires.caller c.in-Ok.ensures.answer).content
+reply_of-requires-clause-content g c = (ask_has_reply c.args.archive.now.site c.args.archive.now.history c.args.moment (bare_ask c.args.ask) (option_map arc_value c.args.content) c.in-Ok.answer c.requires.caller c.in-Ok.ensures.answer).content
 
 pub returns-in-Ok-clause-reply : goal.returns-in-Ok-clause-reply
 returns-in-Ok-clause-reply g c =

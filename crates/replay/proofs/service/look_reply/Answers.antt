@@ -1,5 +1,5 @@
 use Rattle.cta_model.specs.Bare.{bare_look}
-use Rattle.replay.proofs.Served.{look_replied}
+use Rattle.replay.proofs.ForCallers.{look_replied}
 use Rattle.replay.proofs.service.look_reply.Goals as goal
 
 pub returns : goal.returns

@@ -1,4 +1,4 @@
-use Rattle.replay.proofs.Served.{on_ok, looks_keep, replied, replied_keeps}
+use Rattle.replay.proofs.ForCallers.{on_ok, looks_keep, replied, replied_keeps}
 use Rattle.replay.proofs.service.routed_reply.Goals as goal
 
 pub returns-in-Look-clause-kept : goal.returns-in-Look-clause-kept

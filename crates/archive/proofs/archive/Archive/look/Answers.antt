@@ -16,5 +16,8 @@ returns-in-TapeInfo-clause-answer g c = rw (c.in-TapeInfo.is, ← c.self.view_is
 pub returns-in-Queues-clause-answer : goal.returns-in-Queues-clause-answer
 returns-in-Queues-clause-answer g c = rw (c.in-Queues.is, ← c.self.view_is) (IfOk-weaker c.queues.result _ _ (λ r f. f c.args.at) c.queues.ensures.answer)
 
+pub returns-in-RepackInfo-clause-answer : goal.returns-in-RepackInfo-clause-answer
+returns-in-RepackInfo-clause-answer g c = rw (c.in-RepackInfo.is, ← c.self.view_is) (IfOk-weaker c.repack_info.result _ _ (λ r f. f c.args.at) c.repack_info.ensures.answer)
+
 pub returns-in-FailedList-clause-answer : goal.returns-in-FailedList-clause-answer
 returns-in-FailedList-clause-answer g c = rw (c.in-FailedList.is, ← c.self.view_is) (IfOk-weaker c.failed_list.result _ _ (λ r f. f c.args.at) c.failed_list.ensures.answer)

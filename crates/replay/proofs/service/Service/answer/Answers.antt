@@ -1,6 +1,6 @@
 use Rattle.std.proofs.Common.{subst, sym}
 use Rattle.std.proofs.lemmas.Result.{IfOk-weaker}
-use Rattle.replay.proofs.Served.{on_ok, request_text, request_kept}
+use Rattle.replay.proofs.ForCallers.{on_ok, request_text, request_kept}
 use Rattle.tape_routes.specs.Callers.{IsCallers}
 use Rattle.replay.proofs.service.Service.answer.Goals as goal
 
