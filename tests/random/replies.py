@@ -3,7 +3,7 @@
 import json
 
 
-WORDS = {200: "OK", 201: "Created", 400: "Bad Request", 404: "Not Found", 409: "Conflict", 501: "Not Implemented", 503: "Service Unavailable", 507: "Insufficient Storage"}
+WORDS = {200: "OK", 201: "Created", 400: "Bad Request", 404: "Not Found", 409: "Conflict", 503: "Service Unavailable", 507: "Insufficient Storage"}
 STATUS = {
     "bad path": 400, "no directory": 400, "path not in request": 400,
     "no such file": 404, "no such request": 404, "no such drive": 404, "no such tape": 404, "no such repack": 404,
@@ -11,9 +11,6 @@ STATUS = {
     "tape is not repacking": 409, "repack is live": 409,
     "history is full": 503, "no space": 507,
 }
-
-# What isn't served yet.
-NOT_SERVED = ("TapeState", "Reclaim", "Repack", "RepackInfo")
 
 
 def id_text(number):
@@ -37,8 +34,6 @@ def refusal(why):
 
 def reply_to(archive, at, who, question):
     """Asks, and gives the reply."""
-    if question.kind in NOT_SERVED:
-        return reply(501, text_of({"error": "not built"}))
     look = LOOKS.get(question.kind)
     if look:
         return look(archive, len(archive), *question.values)

@@ -8,7 +8,8 @@ from drives import Drive
 from replies import message, reply_to
 
 PATHS = ["/atlas/" + c for c in "abcdef"] + ["/hot/g", "/hot/h"]
-STATES = ("ACTIVE", "ACTIVE", "ACTIVE", "REPACKING", "REPACKING", "DISABLED", "DISABLED", "BROKEN")
+TAPE_ASKS = ("TapeState", "Reclaim", "Repack", "RepackInfo")
+STATES = ("ACTIVE", "ACTIVE", "ACTIVE", "ACTIVE", "REPACKING", "REPACKING", "DISABLED", "DISABLED", "BROKEN")
 
 
 def a_site(r):
@@ -31,7 +32,7 @@ def a_site(r):
         "policies": [policy("std"), policy("fast"), policy("slow")],
         "rules": r.sample([{"kind": "requester", "name": "ann", "policy": "fast"}, {"kind": "group", "name": "prod", "policy": "slow"}, {"kind": "group", "name": "ann", "policy": "std"}], r.randint(0, 3)),
         "libraries": libraries,
-        "tapes": [{"vid": f"V{p}{k}", "pool": p, "library": r.choice(libraries), "capacity": r.choice((8, 40, 100, 100)), "state": "ACTIVE"} for p in pools + ["q"] for k in range(1, tapes + 1)],
+        "tapes": [{"vid": f"V{p}{k}", "pool": p, "library": r.choice(libraries), "capacity": r.choice((8, 40, 100, 100)), "state": r.choice(("ACTIVE",) * 12 + STATES)} for p in pools + ["q"] for k in range(1, tapes + 1)],
         "drives": [{"name": f"d{k}", "library": r.choice(libraries)} for k in range(1, drives + 1)],
         "directories": [{"path": "/atlas", "class": "raw"}, {"path": "/hot", "class": "hot"}],
         "failures": [],
@@ -59,7 +60,7 @@ class Script:
         self.drives = [Drive(d["name"], self.archive, self.tapes) for d in self.site["drives"]]
         self.at, self.script, self.out, self.met = 100, b"", b"", set()
         self.rest = {}
-        for _ in range(self.r.choice((20, 40, 80, 120))):
+        for _ in range(self.r.choice((20, 60, 100, 160))):
             self.one()
         if self.r.random() < 0.8:
             self.finish()
@@ -69,16 +70,30 @@ class Script:
         r = self.r
         self.at = max(0, self.at + r.choice((0, 0, 0, 0, 1, 10, 30, -5)))
         some = r.random()
-        if some < 0.4:
+        if some < 0.36:
             self.send(self.a_question())
-        elif some < 0.5:
+        elif some < 0.46:
             self.flood()
-        elif some < 0.56:
+        elif some < 0.54:
             self.repack()
+        elif some < 0.59:
+            self.change()
         else:
-            drive = r.choice(self.drives)
-            for _ in range(r.choice((1, 3, 8))):
-                self.step(drive)
+            self.work()
+
+    def work(self):
+        """A drive makes some steps, and where it reads then perhaps what it reads is cancelled."""
+        drive = self.r.choice(self.drives)
+        for _ in range(self.r.choice((1, 3, 8))):
+            self.step(drive)
+        if drive.state == "reading" and self.r.random() < 0.3:
+            self.send(ask("Cancel", *self.some_Cancel()))
+            self.step(drive)
+
+    def go_on(self):
+        """Perhaps drives work."""
+        for _ in range(self.r.choice((0, 0, 2, 6))):
+            self.work()
 
     def flood(self):
         """A file as large as all that is free or may be evicted comes and goes, so that files are on tape alone."""
@@ -87,13 +102,32 @@ class Script:
         self.send(ask("Put", "/hot/flood", b"f" * max(size, 0)))
         self.send(ask("Delete", "/hot/flood"))
 
-    def repack(self):
-        """A tape that has something is repacked, if it may be."""
+    def filled(self):
+        """A tape that has something, if there is one."""
         n = len(self.archive)
         vids = [t["vid"] for t in self.site["tapes"] if self.archive.live_items_on(n, t["vid"])]
-        vid = self.r.choice(vids) if vids else self.vid()
+        return self.r.choice(vids) if vids else self.vid()
+
+    def repack(self):
+        """A tape that has something is repacked, if it may be, perhaps once its files are on tape alone. Perhaps it is reclaimed then."""
+        vid = self.filled()
+        if self.r.random() < 0.5:
+            self.flood()
         self.send(ask("TapeState", vid, "REPACKING"))
         self.send(ask("Repack", vid))
+        self.go_on()
+        self.send(self.r.choice((ask("Reclaim", vid), ask("RepackInfo", *self.some_RepackInfo()))))
+
+    def change(self):
+        """A tape that has something changes its state, perhaps once its files are on tape alone and drives read some of them."""
+        vid = self.filled()
+        if self.r.random() < 0.7:
+            self.flood()
+        if self.r.random() < 0.7:
+            self.send(ask("Stage", *self.some_Stage()))
+            self.go_on()
+        self.send(ask("TapeState", vid, self.r.choice(STATES)))
+        self.send(self.r.choice((ask("ArchiveInfo", PATHS), ask("Queues"), ask("StageInfo", *self.some_StageInfo()))))
 
     def step(self, drive):
         self.script += f"step {drive.name} {self.at}\n".encode()
@@ -132,11 +166,12 @@ class Script:
         self.note(question, text.decode(errors="replace"))
 
     def note(self, question, text):
-        """What was met: the ask with its status, errors, localities and states."""
+        """What was met: the ask with its status, and each error, locality and state, states with the look that tells them."""
         self.met.add(f"{question.kind} {text.split()[1]}")
-        for word in ('"error":"', '"locality":"', '"state":"'):
-            for part in text.split(word)[1:]:
-                self.met.add(word.split('"')[1] + " " + part.split('"')[0])
+        for word in ("error", "locality", "state"):
+            for part in text.split(f'"{word}":"')[1:]:
+                told = part.split('"')[0]
+                self.met.add(f"{question.kind} {told}" if word == "state" or question.kind in TAPE_ASKS else f"{word} {told}")
 
     def finish(self):
         """All that is cut is sent, and each report is asked for once."""
@@ -186,10 +221,11 @@ class Script:
         return [[Wanted(p, self.r.choice((None, None, 0, 5, 100))) for p in paths]]
 
     def waiting(self):
-        """What waits for a recall: (request, path)."""
+        """What waits for a recall, of those that were claimed if there are any: (request, path)."""
         n = len(self.archive)
         requests = [(k, self.archive.request(n, k) or ()) for k in range(1, n + 1)]
-        return [(k, s.path) for k, files in requests for s in files if s.state in ("SUBMITTED", "STARTED")]
+        started = [(k, s.path) for k, files in requests for s in files if s.state == "STARTED"]
+        return started or [(k, s.path) for k, files in requests for s in files if s.state == "SUBMITTED"]
 
     def some_Cancel(self):
         waiting, id = self.waiting(), self.id("Stage")
