@@ -1,7 +1,6 @@
 -- Jobs that are put back into queues, one by one.
-use Rattle.std.proofs.Common.{◌≡◌, ◌∙◌, ◌+◌, ◌-◌, ◌*◌, ◌≤◌, ◌<◌, ◌^◌, ℕ, List, [], ◌∷◌, Bool, true, false, ◌||◌, refl, sym, ap, subst, arith, length, take, drop}
+use Rattle.std.proofs.Common.{◌≡◌, ◌∙◌, ◌+◌, ◌-◌, ◌*◌, ◌≤◌, ◌<◌, ◌^◌, ℕ, zero, suc, List, [], ◌∷◌, Bool, true, false, ◌||◌, refl, sym, ap, subst, arith, length, length-drop, drop}
 use Rattle.std.specs.Prelude.{Option, Some, None, ◌==◌, if◌then◌else◌, filter, slice_index_or}
-use Rattle.std.specs.List.{AllByRecursion}
 use Rattle.std.proofs.lemmas.List.Sums.{sum_by-cons}
 use Rattle.cta_site.specs.declared.site.Site.{Site}
 use Rattle.cta_model.specs.declared.asks.Job.{Job}
@@ -15,7 +14,7 @@ use Rattle.part_values.specs.JobBook.{Book}
 use Rattle.part_values.specs.Order.{goes_before}
 use Rattle.part_values.specs.Queues.{Lines, add_at, insert_line}
 use Rattle.fail_calls.specs.Failing.{CanQueue, add_by, jobs_live}
-use Rattle.fail_calls.proofs.FailedLists.{rest_is}
+use Rattle.fail_calls.proofs.FailedLists.{behind}
 
 -- ---- a line among others
 
@@ -82,29 +81,29 @@ fewer j test (i ∷ js) none = by (test i) (parts_none (same_job j i) (has_job j
     by true parts rest = rw (parts.0, rest) refl
     by false parts rest = rest
 
--- the first job is not in the queues to which the others are added
-pub first_lacks : (site : Site) (h : History) (b : Book) (key : Job → Option ℕ) (line : Job → Line) → ((i : Job) → (line i).job ≡ i) → (jobs : List Job) (old mid : Lines) → 1 ≤ length jobs → CanQueue site h b old jobs
-    → ((k : ℕ) → mid k ≡ add_by key line (jobs_live b (take (length jobs - 1) (drop 1 jobs))) old k) → (d : Job) → lives (slice_index_or jobs 0 d) b ≡ true → (k : ℕ) → has_job (slice_index_or jobs 0 d) (jobs_of (mid k)) ≡ false
-first_lacks site h b key line own [] old mid some can added d live k = absurd (omega (arith, some))
-first_lacks site h b key line own (j ∷ js) old mid some can added d live k =
-    ap (λ (ls : List Line). has_job j (jobs_of ls)) (added k ∙ ap (λ (xs : List Job). add_by key line (jobs_live b xs) old k) (rest_is j js))
-    ∙ lacks_by key line own j (jobs_live b js) old k (fewer j (λ i. lives i b) js can.1) ((can.0 live).lacks k)
+queue_drop : (site : Site) (h : History) (b : Book) (lines : Lines) (n : ℕ) (js : List Job) → CanQueue site h b lines js → CanQueue site h b lines (drop n js)
+queue_drop site h b lines zero js can = can
+queue_drop site h b lines (suc n) [] can = can
+queue_drop site h b lines (suc n) (j ∷ js) can = queue_drop site h b lines n js can.2
 
-room_for_one : (bytes was size m n : ℕ) → size ≤ 2147483648 → bytes ≤ was + 2147483648 * m → m ≤ n → was + 2147483648 * (n + 1) < 2 ^ 64 → bytes + size < 2 ^ 64
+-- a job, and those behind it
+pub can_back : (site : Site) (h : History) (b : Book) (lines : Lines) (n : ℕ) (d : Job) (jobs : List Job) → 0 < n → n ≤ length jobs → CanQueue site h b lines jobs → CanQueue site h b lines (slice_index_or jobs (n - 1) d ∷ drop n jobs)
+can_back site h b lines n d jobs some top can = subst (CanQueue site h b lines) (behind jobs n d some top) (queue_drop site h b lines (n - 1) jobs can)
+
+-- the first job is not in the queues to which the others are added
+pub first_lacks : (site : Site) (h : History) (b : Book) (key : Job → Option ℕ) (line : Job → Line) → ((i : Job) → (line i).job ≡ i) → (j : Job) (js : List Job) (old mid : Lines) → CanQueue site h b old (j ∷ js)
+    → ((k : ℕ) → mid k ≡ add_by key line (jobs_live b js) old k) → lives j b ≡ true → (k : ℕ) → has_job j (jobs_of (mid k)) ≡ false
+first_lacks site h b key line own j js old mid can added live k =
+    ap (λ (ls : List Line). has_job j (jobs_of ls)) (added k) ∙ lacks_by key line own j (jobs_live b js) old k (fewer j (λ i. lives i b) js can.1) ((can.0 live).lacks k)
+
+room_for_one : (bytes was size m n : ℕ) → size ≤ 2147483648 → bytes ≤ was + 2147483648 * m → m + 1 ≤ n → was + 2147483648 * n < 2 ^ 64 → bytes + size < 2 ^ 64
 room_for_one bytes was size m n small more less fits = omega arith
 
--- and has room beside them
-pub first_fits : (b : Book) (key : Job → Option ℕ) (line : Job → Line) → ((i : Job) → (line i).len ≤ 2147483648) → (jobs : List Job) (old mid : Lines) (size : ℕ) → 1 ≤ length jobs → size ≤ 2147483648
-    → ((k : ℕ) → mid k ≡ add_by key line (jobs_live b (take (length jobs - 1) (drop 1 jobs))) old k) → ((k : ℕ) → bytes_of (old k) + 2147483648 * length jobs < 2 ^ 64) → (k : ℕ) → bytes_of (mid k) + size < 2 ^ 64
-first_fits b key line small [] old mid size some low added fits k = absurd (omega (arith, some))
-first_fits b key line small (j ∷ js) old mid size some low added fits k =
-    let more : bytes_of (mid k) ≤ bytes_of (old k) + 2147483648 * length (jobs_live b js) =
-    subst (λ (ls : List Line). bytes_of ls ≤ bytes_of (old k) + 2147483648 * length (jobs_live b js)) (sym (added k ∙ ap (λ (xs : List Job). add_by key line (jobs_live b xs) old k) (rest_is j js))) (bytes_by key line small (jobs_live b js) old k) in
-    let all : length (j ∷ js) ≡ length js + 1 = omega arith in
-    room_for_one (bytes_of (mid k)) (bytes_of (old k)) size (length (jobs_live b js)) (length js) low more (filter_le (λ i. lives i b) js) (subst (λ (m : ℕ). bytes_of (old k) + 2147483648 * m < 2 ^ 64) all (fits k))
-
--- ---- the first of archive jobs
-
-pub first_all : (P : Job → Type 0) (jobs : List Job) (d : Job) → 1 ≤ length jobs → AllByRecursion P jobs → P (slice_index_or jobs 0 d)
-first_all P [] d some all = absurd (omega (arith, some))
-first_all P (j ∷ js) d some all = all.0
+-- a job has room beside those behind it
+pub back_fits : (b : Book) (key : Job → Option ℕ) (line : Job → Line) → ((i : Job) → (line i).len ≤ 2147483648) → (n : ℕ) (jobs : List Job) (old mid : Lines) (size : ℕ) → 0 < n → n ≤ length jobs → size ≤ 2147483648
+    → ((k : ℕ) → mid k ≡ add_by key line (jobs_live b (drop n jobs)) old k) → ((k : ℕ) → bytes_of (old k) + 2147483648 * length jobs < 2 ^ 64) → (k : ℕ) → bytes_of (mid k) + size < 2 ^ 64
+back_fits b key line small n jobs old mid size some top low added fits k =
+    let more : bytes_of (mid k) ≤ bytes_of (old k) + 2147483648 * length (jobs_live b (drop n jobs)) =
+    subst (λ (ls : List Line). bytes_of ls ≤ bytes_of (old k) + 2147483648 * length (jobs_live b (drop n jobs))) (sym (added k)) (bytes_by key line small (jobs_live b (drop n jobs)) old k) in
+    let less : length (jobs_live b (drop n jobs)) + 1 ≤ length jobs = omega (arith, filter_le (λ i. lives i b) (drop n jobs), length-drop n jobs) in
+    room_for_one (bytes_of (mid k)) (bytes_of (old k)) size (length (jobs_live b (drop n jobs))) (length jobs) low more less (fits k)

@@ -1,5 +1,5 @@
 -- Items of repacks that fail with the recalls of their files.
-use Rattle.std.proofs.Common.{◌≡◌, ◌∙◌, ◌-◌, ◌+◌, ◌≤◌, ◌<◌, ℕ, zero, suc, List, [], ◌∷◌, ◌++◌, refl, sym, ap, arith, length, take, append-nil, append_assoc}
+use Rattle.std.proofs.Common.{◌≡◌, ◌∙◌, ◌-◌, ◌+◌, ◌<◌, ℕ, zero, suc, List, [], ◌∷◌, ◌++◌, refl, sym, ap, arith, length, take, append-nil, append_assoc}
 use Rattle.std.specs.Prelude.{get_or}
 use Rattle.std.proofs.lemmas.List.{take_more}
 use Rattle.cta_model.specs.declared.reports.ItemState.{ItemState}
@@ -16,16 +16,15 @@ pub states_both : (s : ItemState) (xs ys : List Target) (v : Repacks) → set_st
 states_both s [] ys v = refl
 states_both s (x ∷ xs) ys v = states_both s xs ys (set_state x.0 x.1 x.2 s v)
 
-pub none_down : (id f n : ℕ) (v : Repacks) → n ≡ 0 → RepacksAgree v (set_states item.Failed (targets_down id f n) v)
-none_down id f n v is k = ap (λ (m : ℕ). repack_in (set_states item.Failed (targets_down id f m) v) k) (sym is)
-
--- the highest copy, and then the lower ones
-pub next_down : (id f n : ℕ) (v u w : Repacks) → 1 ≤ n → RepacksAgree u (set_state id f n item.Failed v) → RepacksAgree w (set_states item.Failed (targets_down id f (n - 1)) u) → RepacksAgree w (set_states item.Failed (targets_down id f n) v)
-next_down id f zero v u w low set rest = absurd (omega arith)
-next_down id f (suc n) v u w low set rest = λ k.
+-- the highest copy that is left fails, and then the lower ones
+pub next_down : (id f n : ℕ) (u w all : Repacks) → 0 < n → RepacksAgree (set_states item.Failed (targets_down id f n) u) all → RepacksAgree w (set_state id f (n - 1 + 1) item.Failed u) → RepacksAgree (set_states item.Failed (targets_down id f (n - 1)) w) all
+next_down id f zero u w all some before now = absurd (omega arith)
+next_down id f (suc n) u w all some before now = λ k.
     (let less : suc n - 1 ≡ n = omega arith in
-    rest k ∙ ap (λ (m : ℕ). repack_in (set_states item.Failed (targets_down id f m) u) k) less
-    ∙ states_same item.Failed (targets_down id f n) u (set_state id f (suc n) item.Failed v) set k)
+    let same : suc n - 1 + 1 ≡ suc n = omega arith in
+    ap (λ (m : ℕ). repack_in (set_states item.Failed (targets_down id f m) w) k) less
+    ∙ states_same item.Failed (targets_down id f n) w (set_state id f (suc n) item.Failed u) (λ q. now q ∙ ap (λ (m : ℕ). repack_in (set_state id f m item.Failed u) q) same) k
+    ∙ before k)
 
 targets_last : (xs : List (ℕ × ℕ)) (x : ℕ × ℕ) → pair_targets (xs ++ x ∷ []) ≡ pair_targets xs ++ targets_down x.0 x.1 4
 targets_last [] x = append-nil _

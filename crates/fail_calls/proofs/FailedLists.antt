@@ -1,8 +1,8 @@
 -- Copies that have failed, one by one.
-use Rattle.std.proofs.Common.{◌≡◌, ◌∙◌, ◌-◌, ◌≤◌, ℕ, List, [], ◌∷◌, length, Bool, true, false, ◌||◌, refl, ap, arith, take, drop}
+use Rattle.std.proofs.Common.{◌≡◌, ◌∙◌, ◌+◌, ◌-◌, ◌≤◌, ◌<◌, ℕ, zero, suc, List, [], ◌∷◌, length, Bool, true, false, ◌||◌, refl, ap, subst, arith, drop}
 use Rattle.std.specs.Prelude.{is_none, if◌then◌else◌, ◌==◌, ◌&&◌, filter}
 use Rattle.std.specs.List.{slice_index_or}
-use Rattle.std.proofs.Math.Seq.{take-length}
+use Rattle.std.proofs.lemmas.List.{drop_more}
 use Rattle.cta_model.specs.declared.asks.Job.{Job}
 use Rattle.cta_model.specs.Mounts.{has_copy, job_of}
 use Rattle.part_values.specs.Failed.{added_copies, copies_of_jobs}
@@ -10,9 +10,12 @@ use Rattle.part_values.specs.Order.{goes_before, insert_job, insert_jobs}
 use Rattle.part_values.specs.Tapes.{Table, place_in}
 use Rattle.fail_calls.specs.Failing.{CanFail, jobs_unplaced}
 
--- the rest of a list
-pub rest_is : {A : Type 0} (x : A) (xs : List A) → take (length (x ∷ xs) - 1) (drop 1 (x ∷ xs)) ≡ xs
-rest_is x xs = (let e : length (x ∷ xs) - 1 ≡ length xs = omega arith in ap (λ (n : ℕ). take n xs) e ∙ take-length xs)
+-- the last of those that are left, and the others behind it
+pub behind : {A : Type 0} (xs : List A) (n : ℕ) (d : A) → 0 < n → n ≤ length xs → drop (n - 1) xs ≡ slice_index_or xs (n - 1) d ∷ drop n xs
+behind xs n d some top =
+    let low : n - 1 < length xs = omega (arith, some, top) in
+    let next : n - 1 + 1 ≡ n = omega (arith, some) in
+    drop_more xs (n - 1) d low ∙ ap (λ m. slice_index_or xs (n - 1) d ∷ drop m xs) next
 
 or_none : (a b : Bool) → a ≡ false → b ≡ false → (a || b) ≡ false
 or_none a b x y = rw (x, y) refl
@@ -46,11 +49,17 @@ fewer f c test (j ∷ js) none = by (j.file == f && j.copy == c) (test j) none (
     by false true e rest is = or_none _ _ is (rest e)
     by false false e rest is = rest e
 
+fail_drop : (copies : List Job) (n : ℕ) (js : List Job) → CanFail copies js → CanFail copies (drop n js)
+fail_drop copies zero js can = can
+fail_drop copies (suc n) [] can = can
+fail_drop copies (suc n) (j ∷ js) can = fail_drop copies n js can.2
+
 -- the first job's copy is not among the failed ones to which those of the others are added
-pub first_apart : (v : Table) (jobs copies now : List Job) → 1 ≤ length jobs → CanFail copies jobs → now ≡ added_copies (jobs_unplaced v (take (length jobs - 1) (drop 1 jobs))) copies
-    → (d : Job) → has_copy (slice_index_or jobs 0 d).file (slice_index_or jobs 0 d).copy now ≡ false
-first_apart v [] copies now some can added d = absurd (omega (arith, some))
-first_apart v (j ∷ js) copies now some can added d =
-    ap (has_copy j.file j.copy) (added ∙ ap (λ (xs : List Job). added_copies (jobs_unplaced v xs) copies) (rest_is j js))
-    ∙ has_added j.file j.copy (jobs_unplaced v js) copies
-    ∙ or_none _ _ (fewer j.file j.copy (λ (k : Job). is_none (place_in v k.file k.copy)) js can.1) can.0
+first_apart : (v : Table) (j : Job) (js copies now : List Job) → CanFail copies (j ∷ js) → now ≡ added_copies (jobs_unplaced v js) copies → has_copy j.file j.copy now ≡ false
+first_apart v j js copies now can added =
+    ap (has_copy j.file j.copy) added ∙ has_added j.file j.copy (jobs_unplaced v js) copies ∙ or_none _ _ (fewer j.file j.copy (λ (k : Job). is_none (place_in v k.file k.copy)) js can.1) can.0
+
+-- nor is that of a job among those to which the jobs behind it are added
+pub back_apart : (v : Table) (n : ℕ) (d : Job) (jobs copies now : List Job) → 0 < n → n ≤ length jobs → CanFail copies jobs → now ≡ added_copies (jobs_unplaced v (drop n jobs)) copies
+    → has_copy (slice_index_or jobs (n - 1) d).file (slice_index_or jobs (n - 1) d).copy now ≡ false
+back_apart v n d jobs copies now some top can added = first_apart v (slice_index_or jobs (n - 1) d) (drop n jobs) copies now (subst (CanFail copies) (behind jobs n d some top) (fail_drop copies (n - 1) jobs can)) added

@@ -117,11 +117,9 @@ fn fail_items(repacks: &mut RepackBook, id: u32, file: u32, copies: u8)
     ensures repacks { RepacksAgree (repacks_of repacks.new) (set_states item.Failed (targets_down id file copies) (repacks_of repacks.old)) }
     ensures names { NamesAgree repacks.new repacks.old }
 {
-    if copies == 0 {
-        return;
+    for copy in (0..copies).rev() {
+        repacks.set(id, file, copy + 1, ItemState::Failed);
     }
-    repacks.set(id, file, copies, ItemState::Failed);
-    fail_items(repacks, id, file, copies - 1);
 }
 
 /// The live items of these files are FAILED in those of these entries that are repacks. It takes no memory; its cost is the number of

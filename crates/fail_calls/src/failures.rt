@@ -14,12 +14,11 @@ pub(crate) fn add_failed(failed: &mut FailedCopies, tapes: &TapeFiles, jobs: &[J
     ensures value { failed.new.value ≡ added_copies (jobs_unplaced tapes.now.value jobs.now) failed.old.value }
     ensures room { failed.old.room ≤ failed.new.room + length jobs.now }
 {
-    let [first, rest @ ..] = jobs else {
-        return;
-    };
-    add_failed(failed, tapes, rest);
-    if tapes.place(first.file, first.copy).is_some() {
-        return;
+    for at in (0..jobs.len()).rev() {
+        let job = jobs[at];
+        if tapes.place(job.file, job.copy).is_some() {
+            continue;
+        }
+        failed.add(job);
     }
-    failed.add(*first);
 }

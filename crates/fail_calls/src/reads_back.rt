@@ -100,12 +100,11 @@ pub fn queue_reads(
     ensures keys { length recalls.new.value ≡ length recalls.old.value }
     ensures room { recalls.old.room ≤ recalls.new.room + length jobs.now }
 {
-    let [first, rest @ ..] = jobs else {
-        return;
-    };
-    queue_reads(site, history, tapes, book, recalls, rest);
-    if !book.is_live(*first) {
-        return;
+    for at in (0..jobs.len()).rev() {
+        let job = jobs[at];
+        if !book.is_live(job) {
+            continue;
+        }
+        queue_read(site, history, tapes, book, recalls, job);
     }
-    queue_read(site, history, tapes, book, recalls, *first);
 }

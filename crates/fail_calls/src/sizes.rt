@@ -16,9 +16,9 @@ pub(crate) fn bytes_of(history: &KeptHistory, jobs: &[Job]) -> u64
     requires fits { size_of_jobs history.now.value jobs.now < 2 ^ 64 }
     ensures { result ≡ size_of_jobs history.now.value jobs.now }
 {
-    let [first, rest @ ..] = jobs else {
-        return 0;
-    };
-    let more = bytes_of(history, rest);
-    history.sum_of(first.file).len + more
+    let mut bytes = 0;
+    for job in jobs {
+        bytes += history.sum_of(job.file).len;
+    }
+    bytes
 }

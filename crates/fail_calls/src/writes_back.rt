@@ -61,12 +61,11 @@ pub fn queue_writes(
     ensures keys { length pools.new.value ≡ length pools.old.value }
     ensures room { pools.old.room ≤ pools.new.room + length jobs.now }
 {
-    let [first, rest @ ..] = jobs else {
-        return;
-    };
-    queue_writes(site, history, book, pools, rest);
-    if !book.is_live(*first) {
-        return;
+    for at in (0..jobs.len()).rev() {
+        let job = jobs[at];
+        if !book.is_live(job) {
+            continue;
+        }
+        queue_write(site, history, pools, job);
     }
-    queue_write(site, history, pools, *first);
 }

@@ -1,8 +1,9 @@
 -- Births, joins, pins and items that are WRITING, one by one.
-use Rattle.std.proofs.Common.{◌≡◌, ◌∙◌, ◌+◌, ◌-◌, ◌≤◌, ◌<◌, ℕ, suc, List, [], ◌∷◌, ◌++◌, Bool, true, false, ◌||◌, refl, sym, ap, subst, arith, length, take, drop}
+use Rattle.std.proofs.Common.{◌≡◌, ◌∙◌, ◌+◌, ◌-◌, ◌≤◌, ◌<◌, ℕ, zero, suc, List, [], ◌∷◌, ◌++◌, Bool, true, false, ◌||◌, refl, sym, ap, subst, length, take, drop}
 use Rattle.std.specs.Prelude.{Option, Some, option_map, ◌==◌, ◌&&◌, if◌then◌else◌, get_or, slice_index_or}
 use Rattle.std.proofs.lemmas.Bool.{eqb-true}
-use Rattle.std.proofs.lemmas.List.{take_all, take_more}
+use Rattle.std.proofs.lemmas.List.{take_more}
+use Rattle.std.proofs.Math.Seq.{drop-length}
 use Rattle.cta_model.specs.declared.asks.Job.{Job}
 use Rattle.cta_model.specs.declared.reports.ItemState.TheVariants as item
 use Rattle.cta_model.specs.History.{has_number}
@@ -14,22 +15,19 @@ use Rattle.part_values.specs.Repacks.{Repacks, RepacksAgree, Target, repack_in, 
 use Rattle.space_steps.proofs.SameBooks.{repack_calls_agree}
 use Rattle.space_steps.proofs.SameBuffers.{buffer_calls_agree}
 use Rattle.fail_calls.proofs.EndedItems.{states_both}
+use Rattle.fail_calls.proofs.FailedLists.{behind}
 use Rattle.copy_ends.proofs.Marks.{held_chain, held_self}
 use Rattle.repack_calls.specs.Lists.{AreOnce, pins_of, targets_of}
 
-rest_of : (j : Job) (js : List Job) → take (length (j ∷ js) - 1) (drop 1 (j ∷ js)) ≡ js
-rest_of j js = take_all (length (j ∷ js) - 1) js (omega arith)
-
-rest_numbers : (f : ℕ) (fs : List ℕ) → take (length (f ∷ fs) - 1) (drop 1 (f ∷ fs)) ≡ fs
-rest_numbers f fs = take_all (length (f ∷ fs) - 1) fs (omega arith)
-
 -- ---- joins
 
-pub joined_first : (n : ℕ) (fs : List ℕ) (d : ℕ) (old mid new : Book) → 1 ≤ length fs → AreOnce fs → TellSame mid (subscribe_files (take (length fs - 1) (drop 1 fs)) n old) → TellSame new (subscribe_files (slice_index_or fs 0 d ∷ []) n mid)
-    → TellSame new (subscribe_files fs n old)
-joined_first n [] d old mid new some once rest first = absurd (omega (arith, some))
-joined_first n (f ∷ fs) d old mid new some once rest first =
-    let others : TellSame mid (subscribe_files fs n old) = subst (λ (gs : List ℕ). TellSame mid (subscribe_files gs n old)) (rest_numbers f fs) rest in
+once_drop : (n : ℕ) (fs : List ℕ) → AreOnce fs → AreOnce (drop n fs)
+once_drop zero fs once = once
+once_drop (suc n) [] once = once
+once_drop (suc n) (f ∷ fs) once = once_drop n fs once.1
+
+joined_first : (n f : ℕ) (fs : List ℕ) (old mid new : Book) → AreOnce (f ∷ fs) → TellSame mid (subscribe_files fs n old) → TellSame new (subscribe_files (f ∷ []) n mid) → TellSame new (subscribe_files (f ∷ fs) n old)
+joined_first n f fs old mid new once others first =
     record {
       recall = λ g. first.recall g ∙ ap (λ (o : Option Recall). if (g == f) || false then option_map (subscribed true n) o else o) (others.recall g) ∙ by g (g == f) refl;
       archive = λ g c. first.archive g c ∙ others.archive g c;
@@ -47,9 +45,14 @@ joined_first n (f ∷ fs) d old mid new some once rest first =
         ap (λ (b : Bool). option_map (subscribed true n) (if b then option_map (subscribed true n) (old.recall g) else old.recall g)) away)
     by g false is = refl
 
-pub joined_none : (n : ℕ) (fs : List ℕ) (b : Book) → length fs < 1 → TellSame b (subscribe_files fs n b)
-joined_none n [] b none = record { recall = λ f. refl; archive = λ f c. refl; claimer = λ j. refl; charges = λ j. refl; last_birth = λ f c. refl; named = λ j. refl }
-joined_none n (f ∷ fs) b none = absurd (omega (arith, none))
+pub back_joined : (n i d : ℕ) (fs : List ℕ) (old mid new : Book) → 0 < i → i ≤ length fs → AreOnce fs → TellSame mid (subscribe_files (drop i fs) n old) → TellSame new (subscribe_files (slice_index_or fs (i - 1) d ∷ []) n mid)
+    → TellSame new (subscribe_files (drop (i - 1) fs) n old)
+back_joined n i d fs old mid new some top once others first =
+    let is = behind fs i d some top in
+    subst (λ (gs : List ℕ). TellSame new (subscribe_files gs n old)) (sym is) (joined_first n (slice_index_or fs (i - 1) d) (drop i fs) old mid new (subst AreOnce is (once_drop (i - 1) fs once)) others first)
+
+pub joined_none : (n : ℕ) (fs : List ℕ) (b : Book) → TellSame b (subscribe_files (drop (length fs) fs) n b)
+joined_none n fs b = subst (λ (gs : List ℕ). TellSame b (subscribe_files gs n b)) (sym (drop-length fs)) (record { recall = λ f. refl; archive = λ f c. refl; claimer = λ j. refl; charges = λ j. refl; last_birth = λ f c. refl; named = λ j. refl })
 
 -- ---- births
 
@@ -57,11 +60,8 @@ one_first : {A : Type 0} (a b : Bool) (x y : A) → (if a || false then x else (
 one_first true b x y = refl
 one_first false b x y = refl
 
-pub born_first : (n : ℕ) (js : List Job) (d : Job) (old mid new : Book) → 1 ≤ length js → TellSame mid (bear_jobs (take (length js - 1) (drop 1 js)) n old) → TellSame new (bear_jobs (job_of n (slice_index_or js 0 d).file (slice_index_or js 0 d).copy ∷ []) n mid)
-    → TellSame new (bear_jobs js n old)
-born_first n [] d old mid new some rest first = absurd (omega (arith, some))
-born_first n (j ∷ js) d old mid new some rest first =
-    let others : TellSame mid (bear_jobs js n old) = subst (λ (ks : List Job). TellSame mid (bear_jobs ks n old)) (rest_of j js) rest in
+born_first : (n : ℕ) (j : Job) (js : List Job) (old mid new : Book) → TellSame mid (bear_jobs js n old) → TellSame new (bear_jobs (job_of n j.file j.copy ∷ []) n mid) → TellSame new (bear_jobs (j ∷ js) n old)
+born_first n j js old mid new others first =
     record {
       recall = λ f. first.recall f ∙ ap (λ (o : Option Recall). if (j.file == f && j.copy == 0) || false then Some (record { birth = n; waiting = n ∷ [] }) else o) (others.recall f)
           ∙ one_first (j.file == f && j.copy == 0) (has_copy f 0 js) (Some (record { birth = n; waiting = n ∷ [] })) (old.recall f);
@@ -72,22 +72,27 @@ born_first n (j ∷ js) d old mid new some rest first =
       named = λ i. first.named i ∙ others.named i;
     }
 
-pub born_none : (n : ℕ) (js : List Job) (b : Book) → length js < 1 → TellSame b (bear_jobs js n b)
-born_none n [] b none = record { recall = λ f. refl; archive = λ f c. refl; claimer = λ j. refl; charges = λ j. refl; last_birth = λ f c. refl; named = λ j. refl }
-born_none n (j ∷ js) b none = absurd (omega (arith, none))
+pub back_born : (n i : ℕ) (d : Job) (js : List Job) (old mid new : Book) → 0 < i → i ≤ length js → TellSame mid (bear_jobs (drop i js) n old)
+    → TellSame new (bear_jobs (job_of n (slice_index_or js (i - 1) d).file (slice_index_or js (i - 1) d).copy ∷ []) n mid) → TellSame new (bear_jobs (drop (i - 1) js) n old)
+back_born n i d js old mid new some top others first =
+    subst (λ (ks : List Job). TellSame new (bear_jobs ks n old)) (sym (behind js i d some top)) (born_first n (slice_index_or js (i - 1) d) (drop i js) old mid new others first)
+
+pub born_none : (n : ℕ) (js : List Job) (b : Book) → TellSame b (bear_jobs (drop (length js) js) n b)
+born_none n js b = subst (λ (ks : List Job). TellSame b (bear_jobs ks n b)) (sym (drop-length js)) (record { recall = λ f. refl; archive = λ f c. refl; claimer = λ j. refl; charges = λ j. refl; last_birth = λ f c. refl; named = λ j. refl })
 
 -- ---- pins
 
-pub pinned_first : (n : ℕ) (js : List Job) (d : Job) (old mid new : Held) → 1 ≤ length js → HeldAgree mid (pin_all (pins_of n (take (length js - 1) (drop 1 js))) old) → HeldAgree new (pin mid (slice_index_or js 0 d).file n 18446744073709551615)
-    → HeldAgree new (pin_all (pins_of n js) old)
-pinned_first n [] d old mid new some rest first = absurd (omega (arith, some))
-pinned_first n (j ∷ js) d old mid new some rest first =
-    let others : HeldAgree mid (pin_all (pins_of n js) old) = subst (λ (ks : List Job). HeldAgree mid (pin_all (pins_of n ks) old)) (rest_of j js) rest in
+pinned_first : (n : ℕ) (j : Job) (js : List Job) (old mid new : Held) → HeldAgree mid (pin_all (pins_of n js) old) → HeldAgree new (pin mid j.file n 18446744073709551615) → HeldAgree new (pin_all (pins_of n (j ∷ js)) old)
+pinned_first n j js old mid new others first =
     held_chain new (pin mid j.file n 18446744073709551615) (pin_all (pins_of n (j ∷ js)) old) first ((buffer_calls_agree mid (pin_all (pins_of n js) old) others).sets j.file n 18446744073709551615)
 
-pub pinned_none : (n : ℕ) (js : List Job) (b : Held) → length js < 1 → HeldAgree b (pin_all (pins_of n js) b)
-pinned_none n [] b none = held_self b
-pinned_none n (j ∷ js) b none = absurd (omega (arith, none))
+pub back_pinned : (n i : ℕ) (d : Job) (js : List Job) (old mid new : Held) → 0 < i → i ≤ length js → HeldAgree mid (pin_all (pins_of n (drop i js)) old) → HeldAgree new (pin mid (slice_index_or js (i - 1) d).file n 18446744073709551615)
+    → HeldAgree new (pin_all (pins_of n (drop (i - 1) js)) old)
+back_pinned n i d js old mid new some top others first =
+    subst (λ (ks : List Job). HeldAgree new (pin_all (pins_of n ks) old)) (sym (behind js i d some top)) (pinned_first n (slice_index_or js (i - 1) d) (drop i js) old mid new others first)
+
+pub pinned_none : (n : ℕ) (js : List Job) (b : Held) → HeldAgree b (pin_all (pins_of n (drop (length js) js)) b)
+pinned_none n js b = subst (λ (ks : List Job). HeldAgree b (pin_all (pins_of n ks) b)) (sym (drop-length js)) (held_self b)
 
 -- flags that are set on buffers that tell the same
 pub flags_same : (safe : ℕ → Bool) (fs : List ℕ) (v w : Held) → HeldAgree v w → HeldAgree (set_all safe fs v) (set_all safe fs w)

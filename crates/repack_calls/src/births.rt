@@ -14,11 +14,9 @@ pub(crate) fn join_all(book: &mut JobBook, number: u32, files: &[u32])
     ensures book { TellSame (book_in book.new.value) (subscribe_files files.now number (book_in book.old.value)) }
     ensures room { book.old.room ≤ book.new.room + length files.now }
 {
-    let [first, rest @ ..] = files else {
-        return;
-    };
-    join_all(book, number, rest);
-    book.subscribe(*first, number);
+    for at in (0..files.len()).rev() {
+        book.subscribe(files[at], number);
+    }
 }
 
 // A job of each of these copies is born by the entry of this number.
@@ -27,13 +25,12 @@ pub(crate) fn bear_all(book: &mut JobBook, number: u32, jobs: &[Job])
     ensures book { TellSame (book_in book.new.value) (bear_jobs jobs.now number (book_in book.old.value)) }
     ensures room { book.old.room ≤ book.new.room + length jobs.now }
 {
-    let [first, rest @ ..] = jobs else {
-        return;
-    };
-    bear_all(book, number, rest);
-    book.born(Job {
-        birth: number,
-        file: first.file,
-        copy: first.copy,
-    });
+    for at in (0..jobs.len()).rev() {
+        let job = jobs[at];
+        book.born(Job {
+            birth: number,
+            file: job.file,
+            copy: job.copy,
+        });
+    }
 }

@@ -27,9 +27,7 @@ pub(crate) fn pin_all_of(buffer: &mut DiskBuffer, number: u32, jobs: &[Job])
     ensures contents { buffer.new.contents ≡ buffer.old.contents }
     ensures room { buffer.old.held.room ≤ buffer.new.held.room + length jobs.now }
 {
-    let [first, rest @ ..] = jobs else {
-        return;
-    };
-    pin_all_of(buffer, number, rest);
-    buffer.pin(first.file, number, u64::MAX);
+    for at in (0..jobs.len()).rev() {
+        buffer.pin(jobs[at].file, number, u64::MAX);
+    }
 }

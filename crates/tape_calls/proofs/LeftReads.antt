@@ -1,8 +1,8 @@
 -- Recalls that leave queues one by one.
-use Rattle.std.proofs.Common.{◌≡◌, ◌∙◌, ◌-◌, ◌≤◌, ◌<◌, ℕ, inl, inr, List, [], ◌∷◌, Bool, true, false, ◌||◌, not, refl, sym, ap, subst, arith, length, take, drop}
+use Rattle.std.proofs.Common.{◌≡◌, ◌∙◌, ◌+◌, ◌<◌, ℕ, zero, suc, inl, inr, List, [], ◌∷◌, ◌++◌, Bool, true, false, ◌||◌, not, refl, sym, ap, arith, length, take}
 use Rattle.std.specs.Prelude.{Option, Some, None, ◌==◌, if◌then◌else◌, filter, get_or}
 use Rattle.std.proofs.lemmas.Bool.{eq-eqb}
-use Rattle.std.proofs.lemmas.List.{take_all}
+use Rattle.std.proofs.lemmas.List.{take_more}
 use Rattle.cta_model.specs.declared.asks.Job.{Job}
 use Rattle.cta_model.specs.Mounts.{has_job, same_job}
 use Rattle.cta_laws.proofs.Tests.{bool_cases}
@@ -36,12 +36,27 @@ was_there i js (l ∷ ls) e = by (has_job l.job js) (same_job i l.job) refl (λ 
     by true false is rest x = rest x
     by false false is rest x = rest (rw is at x)
 
--- the first leaves, and then the others
-left_rest : (j : Job) (js : List Job) (ls : List Line) → left js (left (j ∷ []) ls) ≡ left (j ∷ js) ls
-left_rest j js [] = refl
-left_rest j js (l ∷ ls) = by (same_job l.job j) (has_job l.job js) refl (left_rest j js ls)
+or_none : (a : Bool) → (a || false) ≡ a
+or_none true = refl
+or_none false = refl
+
+or_apart : (a b c : Bool) → (a || (b || c)) ≡ ((a || b) || c)
+or_apart true b c = refl
+or_apart false b c = refl
+
+has_last : (i : Job) (js : List Job) (j : Job) → has_job i (js ++ j ∷ []) ≡ (has_job i js || same_job i j)
+has_last i [] j = or_none (same_job i j)
+has_last i (k ∷ js) j = ap (λ (b : Bool). same_job i k || b) (has_last i js j) ∙ or_apart (same_job i k) (has_job i js) (same_job i j)
+
+-- the others leave, and then the last
+left_last : (js : List Job) (j : Job) (ls : List Line) → left (j ∷ []) (left js ls) ≡ left (js ++ j ∷ []) ls
+left_last js j [] = refl
+left_last js j (l ∷ ls) =
+    by (has_job l.job js) (same_job l.job j) refl (left_last js j ls)
+    ∙ ap (λ (b : Bool). if not b then l ∷ left (js ++ j ∷ []) ls else left (js ++ j ∷ []) ls) (sym (has_last l.job js j))
   where
-    by : (a b : Bool) → has_job l.job js ≡ b → left js (left (j ∷ []) ls) ≡ left (j ∷ js) ls → left js (if not (a || false) then l ∷ left (j ∷ []) ls else left (j ∷ []) ls) ≡ (if not (a || b) then l ∷ left (j ∷ js) ls else left (j ∷ js) ls)
+    by : (a b : Bool) → same_job l.job j ≡ b → left (j ∷ []) (left js ls) ≡ left (js ++ j ∷ []) ls
+        → left (j ∷ []) (if not a then l ∷ left js ls else left js ls) ≡ (if not (a || b) then l ∷ left (js ++ j ∷ []) ls else left (js ++ j ∷ []) ls)
     by true b is rest = rest
     by false true is rest = rw is rest
     by false false is rest = rw is (ap (λ (ks : List Line). l ∷ ks) rest)
@@ -68,14 +83,14 @@ key_left j old now key k o taken stands found = taken_from j old now key k taken
 pub none_left : (j : Job) (lines : Lines) (k : ℕ) (o : Option ℕ) → (has_job j (jobs_of (lines k)) ≡ true → o ≡ Some k) → None ≡ o → lines k ≡ drop_jobs (j ∷ []) lines k
 none_left j lines k o stands found = stands_nowhere j lines k (λ there. (let is : Some k ≡ None = sym (stands there) ∙ sym found in absurd (cc)))
 
--- ---- the first job, and the others
+-- ---- several jobs leave, one by one
 
 none_dropped : (ls : List Line) → ls ≡ left [] ls
 none_dropped [] = refl
 none_dropped (l ∷ ls) = ap (λ (ks : List Line). l ∷ ks) (none_dropped ls)
 
-rest_of : (j : Job) (js : List Job) → take (length (j ∷ js) - 1) (drop 1 (j ∷ js)) ≡ js
-rest_of j js = take_all (length (j ∷ js) - 1) js (omega arith)
+pub none_leave : (lines : Lines) (k : ℕ) → lines k ≡ drop_jobs [] lines k
+none_leave lines k = none_dropped (lines k)
 
 first_has : (a b : Bool) → a ≡ true → (a || b) ≡ true
 first_has true b e = refl
@@ -85,24 +100,19 @@ or_back : (a b : Bool) → b ≡ true → (a || b) ≡ true
 or_back true b e = refl
 or_back false b e = e
 
+has_at : (js : List Job) (i : ℕ) (d : Job) → i < length js → has_job (get_or js i d) js ≡ true
+has_at [] i d low = absurd (omega (arith, low))
+has_at (j ∷ js) zero d low = first_has (same_job j j) (has_job j js) (grind arith)
+has_at (j ∷ js) (suc i) d low = or_back (same_job (get_or js i d) j) (has_job (get_or js i d) js) (has_at js i d (omega (arith, low)))
+
 -- what is known of all where they stand
 abbrev pub StandBy : (Job → Option ℕ) → Lines → List Job → Type 0
 StandBy key lines js = (j : Job) → has_job j js ≡ true → (k : ℕ) → has_job j (jobs_of (lines k)) ≡ true → key j ≡ Some k
 
-pub first_stands : (key : Job → Option ℕ) (lines : Lines) (js : List Job) (d : Job) → 1 ≤ length js → StandBy key lines js → (k : ℕ) → has_job (get_or js 0 d) (jobs_of (lines k)) ≡ true → key (get_or js 0 d) ≡ Some k
-first_stands key lines [] d some stand k there = absurd (omega (arith, some))
-first_stands key lines (j ∷ js) d some stand k there = stand j (first_has (same_job j j) (has_job j js) (grind arith)) k there
+-- is known of each when those before it have left
+pub stands_at : (key : Job → Option ℕ) (old mid : Lines) (js : List Job) (i : ℕ) (d : Job) → i < length js → StandBy key old js → ((k : ℕ) → mid k ≡ drop_jobs (take i js) old k) → (k : ℕ) → has_job (get_or js i d) (jobs_of (mid k)) ≡ true → key (get_or js i d) ≡ Some k
+stands_at key old mid js i d low stand were k there =
+    stand (get_or js i d) (has_at js i d low) k (was_there (get_or js i d) (take i js) (old k) (sym (ap (λ (ls : List Line). has_job (get_or js i d) (jobs_of ls)) (were k)) ∙ there))
 
-pub rest_stand : (key : Job → Option ℕ) (old mid : Lines) (js : List Job) (d : Job) → 1 ≤ length js → StandBy key old js → ((k : ℕ) → mid k ≡ drop_jobs (get_or js 0 d ∷ []) old k) → StandBy key mid (take (length js - 1) (drop 1 js))
-rest_stand key old mid [] d some stand left_one = absurd (omega (arith, some))
-rest_stand key old mid (j ∷ js) d some stand left_one = λ i there k waits.
-    stand i (or_back (same_job i j) (has_job i js) (subst (λ (xs : List Job). has_job i xs ≡ true) (rest_of j js) there)) k
-    (was_there i (j ∷ []) (old k) (sym (ap (λ (ls : List Line). has_job i (jobs_of ls)) (left_one k)) ∙ waits))
-
-pub all_leave : (xs : List Job) (d : Job) (old mid now : Lines) (k : ℕ) → 1 ≤ length xs → mid k ≡ drop_jobs (get_or xs 0 d ∷ []) old k → now k ≡ drop_jobs (take (length xs - 1) (drop 1 xs)) mid k → now k ≡ drop_jobs xs old k
-all_leave [] d old mid now k some first rest = absurd (omega (arith, some))
-all_leave (j ∷ js) d old mid now k some first rest = (rest ∙ ap (λ (ys : List Job). left ys (mid k)) (rest_of j js)) ∙ ap (left js) first ∙ left_rest j js (old k)
-
-pub none_leave : (xs : List Job) (lines : Lines) (k : ℕ) → length xs < 1 → lines k ≡ drop_jobs xs lines k
-none_leave [] lines k none = none_dropped (lines k)
-none_leave (j ∷ js) lines k none = absurd (omega arith)
+pub left_more : (js : List Job) (i : ℕ) (d : Job) (old mid now : Lines) (k : ℕ) → i < length js → mid k ≡ drop_jobs (take i js) old k → now k ≡ drop_jobs (get_or js i d ∷ []) mid k → now k ≡ drop_jobs (take (i + 1) js) old k
+left_more js i d old mid now k low were one = one ∙ ap (left (get_or js i d ∷ [])) were ∙ left_last (take i js) (get_or js i d) (old k) ∙ ap (λ (xs : List Job). left xs (old k)) (sym (take_more js i d low))

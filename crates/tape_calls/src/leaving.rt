@@ -42,11 +42,7 @@ pub(crate) fn leave_reads(
     ensures keys { length recalls.new.value ≡ length recalls.old.value }
     ensures room { recalls.old.room ≤ recalls.new.room }
 {
-    match jobs {
-        [] => {}
-        [first, rest @ ..] => {
-            leave_one(recalls, tapes, book, *first);
-            leave_reads(recalls, tapes, book, rest);
-        }
+    for job in jobs {
+        leave_one(recalls, tapes, book, *job);
     }
 }
