@@ -44,7 +44,7 @@ fn frame_of(alloc: Global, link: u32, text: &[u8]) -> Result<Vec<u8>, NoMemory>
     ensures { IfOk result (λ v. v.items ≡ frame (record { link = link; text = text.now })) }
 {
     let line = line_before(alloc, link, text.len())?;
-    let mut frame = Vec::new(alloc);
+    let mut frame = Vec::with_capacity(alloc, line.len() + text.len() + 1)?;
     frame.extend_from_slice(line.as_bytes())?;
     frame.extend_from_slice(text)?;
     frame.extend_from_slice(b"\n")?;

@@ -9,6 +9,9 @@ use cta_site::{NoMemory, Text};
 use itoa::Buffer;
 use std::alloc::Global;
 
+// Room for the status line and the fields of most replies, so that they are written without growing.
+const HEAD_ROOM: usize = 256;
+
 fn put_status(out: &mut Vec<u8>, code: u16) -> Result<(), NoMemory>
     ensures { OnOk result (out.new.items ≡ out.old.items ++ status_line code) }
 {
@@ -119,7 +122,7 @@ fn put_fields(out: &mut Vec<u8>, reply: &Reply) -> Result<(), NoMemory>
 pub fn write_reply(alloc: Global, reply: &Reply) -> Result<Vec<u8>, NoMemory>
     ensures { IfOk result (λ text. text.items ≡ reply_text reply.now) }
 {
-    let mut out = Vec::new(alloc);
+    let mut out = Vec::with_capacity(alloc, HEAD_ROOM)?;
     put_status(&mut out, reply.code)?;
     put_fields(&mut out, reply)?;
     out.extend_from_slice(b"\r\n")?;
