@@ -1,5 +1,5 @@
 -- What a book tells after its calls.
-use Rattle.std.proofs.Common.{◌≡◌, ◌∙◌, ◌<◌, ◌≤◌, ◌+◌, ℕ, List, [], ◌∷◌, Some, None, Bool, true, false, ◌||◌, refl, sym, ap, subst, arith}
+use Rattle.std.proofs.Common.{◌≡◌, ◌∙◌, ℕ, List, [], ◌∷◌, Some, None, Bool, true, false, ◌||◌, refl, sym, ap, subst}
 use Rattle.std.specs.Prelude.{Option, ◌==◌, ◌&&◌, not, map, filter, if◌then◌else◌, is_some, option_map}
 use Rattle.std.specs.List.{list_any}
 use Rattle.std.proofs.lemmas.Bool.{eqb-true, eq-eqb}
@@ -17,8 +17,6 @@ use Rattle.repack_book.specs.Order.{is_item, has_item, is_holder, has_holder}
 use Rattle.repack_book.specs.Kept.{Kept, KeptRepack, NamesAgree, RepackNames, fresh_repack, kept_in, names_in, names_of, repacks_of, set_in, tape_of}
 use Rattle.repack_book.specs.Live.{AreIndexed, has_live, has_state, holds_by, holds_on}
 use Rattle.repack_book.specs.Walks.{IsFirstFrom}
-use Rattle.std.proofs.lemmas.Bool.Decides.{nat_tests}
-use Rattle.job_queues.specs.Laws.{way, Below, Level, Above}
 use Rattle.repack_book.proofs.Rows.{flip, and_left, and_right}
 
 clash : {b : Bool} → b ≡ true → b ≡ false → ⊥
@@ -498,34 +496,11 @@ writer_holds v items holders f c r x h = x.of_copy f c r ∙ by (kept_in v r) (s
     by None k = absurd (cc)
     by (Some q) k = writing_lives f c q.repack.items k
 
--- ---- walks
+-- ---- one repack
 
-pub none_of : (p h : ℕ → Bool) (from : ℕ) → ((n : ℕ) → p n ≡ true → h n ≡ true) → IsFirstFrom h from None → IsFirstFrom p from None
-none_of p h from sub none n e = none n (sub n e)
-
-pub this_one : (p h : ℕ → Bool) (from m : ℕ) → ((n : ℕ) → p n ≡ true → h n ≡ true) → IsFirstFrom h from (Some m) → p m ≡ true → IsFirstFrom p from (Some m)
-this_one p h from m sub w e = (e, w.1, λ n k le. w.2 n (sub n k) le)
-
-passed : (p : ℕ → Bool) (m n : ℕ) → p m ≡ false → p n ≡ true → m ≤ n → m + 1 ≤ n
-passed p m n e k le = by (m == n) refl
-  where
-    more : (a b : ℕ) → a ≤ b → (a == b) ≡ false → a + 1 ≤ b
-    more a b le ne = grind (arith, nat_tests)
-
-    by : (b : Bool) → (m == n) ≡ b → m + 1 ≤ n
-    by true h = absurd (clash k (ap p (sym (eqb-true m n h)) ∙ e))
-    by false h = more m n le h
-
-pub skipped : (p h : ℕ → Bool) (from m : ℕ) → ((n : ℕ) → p n ≡ true → h n ≡ true) → IsFirstFrom h from (Some m) → p m ≡ false → (o : Option ℕ) → IsFirstFrom p (m + 1) o → IsFirstFrom p from o
-skipped p h from m sub w e None none = λ n k. under n from m (none n k) (λ le. w.2 n (sub n k) le) (λ le. passed p m n e k le)
-  where
-    under : (n from m : ℕ) → n < m + 1 → (from ≤ n → m ≤ n) → (m ≤ n → m + 1 ≤ n) → n < from
-    under n from m lt a b = elim (way n from) [
-      | Below h ↦ h
-      | Level h ↦ absurd (let x : m ≤ n = a (omega arith) in let y : m + 1 ≤ n = b x in omega arith)
-      | Above h ↦ absurd (let x : m ≤ n = a (omega arith) in let y : m + 1 ≤ n = b x in omega arith)
-    ]
-skipped p h from m sub w e (Some q) next = (next.0, (let low : from ≤ m = w.1 in let up : m + 1 ≤ q = next.1 in omega arith), λ n k le. next.2 n k (passed p m n e k (w.2 n (sub n k) le)))
+-- the live items of a kept repack, on its tape, are its copies that are live
+pub items_of_row : (v : Kept) (items : List LiveItem) (holders : List Holder) (id f : ℕ) (k : KeptRepack) → AreIndexed v items holders → kept_in v id ≡ Some k → (c : ℕ) → has_item items k.repack.tape id f c ≡ has_live f c k.repack.items
+items_of_row v items holders id f k x here c = x.on_tape k.repack.tape id f c ∙ ap (holds_on k.repack.tape f c) here ∙ ap (λ b. b && has_live f c k.repack.items) (eq-eqb k.repack.tape k.repack.tape refl)
 
 pub some_of : (o : Option KeptRepack) → is_some (option_map repack_of o) ≡ is_some o
 some_of None = refl

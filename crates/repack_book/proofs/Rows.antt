@@ -1,5 +1,5 @@
 -- What the states of a repack tell of its items.
-use Rattle.std.proofs.Common.{◌≡◌, ◌∙◌, ◌<◌, ◌≤◌, ◌+◌, ℕ, zero, suc, List, [], ◌∷◌, length, take, get_or, Some, None, Bool, true, false, ◌||◌, refl, sym, ap, subst, arith}
+use Rattle.std.proofs.Common.{◌≡◌, ◌∙◌, ◌<◌, ◌+◌, ℕ, zero, suc, List, [], ◌∷◌, length, take, get_or, Some, None, Bool, true, false, ◌||◌, refl, sym, ap, subst, arith}
 use Rattle.std.specs.Prelude.{Option, ◌==◌, ◌&&◌, map, filter, if◌then◌else◌, is_some, option_map, unwrap_or}
 use Rattle.std.specs.List.{list_any}
 use Rattle.std.proofs.lemmas.Bool.{eqb-true, eq-eqb}
@@ -9,13 +9,11 @@ use Rattle.cta_model.specs.declared.reports.ItemState.TheVariants as item
 use Rattle.cta_model.specs.declared.states.RepackCopy.{RepackCopy}
 use Rattle.cta_model.specs.History.{has_number}
 use Rattle.cta_model.specs.Mounts.{has_copy}
-use Rattle.cta_model.specs.Repacks.{Repack, is_live_item}
-use Rattle.part_values.specs.Repacks.{is_reading, reading_copies, set_item}
+use Rattle.cta_model.specs.Repacks.{is_live_item}
+use Rattle.part_values.specs.Repacks.{is_reading, set_item}
 use Rattle.repack_book.specs.States.{States, state_at, item_at, items_of, turned_if}
 use Rattle.repack_book.specs.Live.{has_live, has_state}
 use Rattle.repack_book.specs.Kept.{Kept, KeptRepack, fresh_repack, kept_in}
-use Rattle.repack_book.specs.Walks.{IsFirstFrom}
-use Rattle.std.proofs.lemmas.Bool.Decides.{nat_tests}
 
 pub flip : (x y : ℕ) → (x == y) ≡ (y == x)
 flip x y = grind arith
@@ -186,43 +184,6 @@ has_copy_more f c jobs n d h = ap (λ (m : ℕ). has_copy f c (take m jobs)) nex
     more (j ∷ js) zero h = refl
     more (j ∷ js) (suc m) h = ap (λ (b : Bool). (j.file == f && j.copy == c) || b) (more js m (omega arith)) ∙ swap (j.file == f && j.copy == c) ((get_or js m d).file == f && (get_or js m d).copy == c) (has_copy f c (take m js))
 
--- ---- walks
-
-pub reading_none : (f from : ℕ) (r : Repack) → ((k : ℕ) → has_state f k is_reading r.items ≡ true → k < 256) → ((k : ℕ) → from ≤ k → k < 256 → has_number k (reading_copies f (Some r)) ≡ false) → IsFirstFrom (λ c. has_number c (reading_copies f (Some r))) from None
-reading_none f from r low none n h =
-    (let under : n < 256 = low n (sym (reading_is f n r.items) ∙ h) in
-    below n from (λ k. clash h (none n k under)))
-  where
-    clash : {b : Bool} → b ≡ true → b ≡ false → ⊥
-    clash e g = cc
-
-    below : (m n : ℕ) → (n ≤ m → ⊥) → m < n
-    below zero zero k = absurd (k (omega arith))
-    below zero (suc n) k = omega arith
-    below (suc m) zero k = absurd (k (omega arith))
-    below (suc m) (suc n) k = (let more : m < n = below m n (λ le. k (omega arith)) in omega arith)
-
-pub reading_some : (f from copy : ℕ) (r : Repack) → from ≤ copy → has_state f copy is_reading r.items ≡ true → ((k : ℕ) → from ≤ k → k < copy → has_number k (reading_copies f (Some r)) ≡ false) → IsFirstFrom (λ c. has_number c (reading_copies f (Some r))) from (Some copy)
-reading_some f from copy r low here none = (reading_is f copy r.items ∙ here, low, λ n h le. at_least copy n (λ k. clash h (none n le k)))
-  where
-    clash : {b : Bool} → b ≡ true → b ≡ false → ⊥
-    clash e g = cc
-
-    at_least : (m n : ℕ) → (n < m → ⊥) → m ≤ n
-    at_least zero n k = omega arith
-    at_least (suc m) zero k = absurd (k (omega arith))
-    at_least (suc m) (suc n) k = (let more : m ≤ n = at_least m n (λ lt. k (omega arith)) in omega arith)
-
-pub none_more : (p : ℕ → Bool) (from n : ℕ) → ((k : ℕ) → from ≤ k → k < n → p k ≡ false) → p n ≡ false → (k : ℕ) → from ≤ k → k < n + 1 → p k ≡ false
-none_more p from n none here k le lt = by (k == n) refl
-  where
-    less : (a b : ℕ) → a < b + 1 → (a == b) ≡ false → a < b
-    less a b h e = grind (arith, nat_tests)
-
-    by : (b : Bool) → (k == n) ≡ b → p k ≡ false
-    by true e = ap p (eqb-true k n e) ∙ here
-    by false e = none k le (less k n lt e)
-
 -- ---- copies that a loop has passed
 
 pub states_more : (old new : States) (jobs : List Job) (n : ℕ) (d : Job) → n < length jobs
@@ -242,13 +203,6 @@ low_more jobs n d h here low f c e = by ((get_or jobs n d).file == f) ((get_or j
     by true true k g = subst (λ (m : ℕ). m < 256) (eqb-true _ _ k) here
     by true false k g = low f c g
     by false b k g = low f c g
-
-pub none_at_all : (f : ℕ) (items : List RepackCopy) → ((k : ℕ) → has_live f k items ≡ true → k < 256) → ((k : ℕ) → k < 256 → has_live f k items ≡ false) → (k : ℕ) → has_live f k items ≡ false
-none_at_all f items low none k = by (has_live f k items) refl
-  where
-    by : (b : Bool) → has_live f k items ≡ b → has_live f k items ≡ false
-    by true e = none k (low k e)
-    by false e = e
 
 pub write_row : (v : Kept) (id q : ℕ) (g : KeptRepack → KeptRepack) (old new : KeptRepack) → kept_in v id ≡ Some old → new ≡ g old → (if id == q then Some new else kept_in v q) ≡ (if id == q then option_map g (kept_in v q) else kept_in v q)
 write_row v id q g old new here is = by (id == q) refl

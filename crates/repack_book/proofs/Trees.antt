@@ -137,7 +137,7 @@ and_right : (a c : Bool) → (a && c) ≡ true → c ≡ true
 and_right true c e = e
 and_right false c e = absurd (cc)
 
-and_both : (a c : Bool) → a ≡ true → c ≡ true → (a && c) ≡ true
+pub and_both : (a c : Bool) → a ≡ true → c ≡ true → (a && c) ≡ true
 and_both true c e f = f
 and_both false c e f = absurd (cc)
 
@@ -157,7 +157,7 @@ not_either : (a c : Bool) → a ≡ false → c ≡ false → not (a || c) ≡ t
 not_either true c e f = absurd (cc)
 not_either false c e f = ap not f
 
-tape_first : (x y : LiveItem) → x.tape < y.tape → item_before x y ≡ true
+pub tape_first : (x y : LiveItem) → x.tape < y.tape → item_before x y ≡ true
 tape_first x y h = grind arith
 
 numbers_not : (x y : LiveItem) → x.tape ≡ y.tape → item_before x y ≡ false → goes_before (item_numbers x) (item_numbers y) ≡ false
@@ -230,11 +230,11 @@ item_added trees mid now x one too e g t r f c =
 flip_nat : (x y : ℕ) → (x == y) ≡ (y == x)
 flip_nat x y = grind arith
 
-not_yes : (a : Bool) → not a ≡ true → a ≡ false
+pub not_yes : (a : Bool) → not a ≡ true → a ≡ false
 not_yes true e = absurd (cc)
 not_yes false e = refl
 
-not_no : (a : Bool) → not a ≡ false → a ≡ true
+pub not_no : (a : Bool) → not a ≡ false → a ≡ true
 not_no true e = refl
 not_no false e = absurd (cc)
 

@@ -185,23 +185,24 @@ impl RepackBook {
         }
     }
 
-    /// The lowest copy of a file from this one on that the repack is READING, None exactly where there is none. Its cost is at most
-    /// that of 256 look-ups.
+    /// The lowest copy of a file from this one on that the repack is READING, None exactly where there is none. It takes no memory.
+    /// Its cost is the logarithm of the number of live items, for each copy of the file that is passed over since it is WRITING.
     pub fn reading(&self, id: u32, file: u32, from: u8) -> Option<u8>
         ensures { IsFirstFrom (λ c. has_number c (reading_copies file (repack_in (repacks_of self.now) id))) from result }
     {
         match self.rows.get(&id) {
-            Some(row) => row.reading(file, from),
+            Some(row) => row.reading(&self.items, id, file, from),
             None => None,
         }
     }
 
-    /// Whether an item of the file is READING or WRITING in the repack. Its cost is at most that of 256 look-ups.
+    /// Whether an item of the file is READING or WRITING in the repack. It takes no memory. Its cost is the logarithm of the number
+    /// of live items.
     pub fn pins(&self, id: u32, file: u32) -> bool
         ensures { result ≡ has_item_by (λ (i : RepackCopy). i.file == file && is_live_item i.state) (repack_in (repacks_of self.now) id) }
     {
         match self.rows.get(&id) {
-            Some(row) => row.pins(file),
+            Some(row) => row.pins(&self.items, id, file),
             None => false,
         }
     }
@@ -237,14 +238,13 @@ impl RepackBook {
     pub fn next_writer(&self, file: u32, copy: u8, id: u32) -> Option<u32>
         ensures { IsFirstFrom (λ q. has_number q (writers_in (repacks_of self.now) file copy)) (id + 1) result }
     {
-        match self.holders.after(file, copy, id) {
-            Some(holder) => {
-                if self.is_writing(holder, file, copy) {
-                    return Some(holder);
-                }
-                self.next_writer(file, copy, holder)
+        let mut at = id;
+        while let Some(holder) = self.holders.after(file, copy, at) {
+            if self.is_writing(holder, file, copy) {
+                return Some(holder);
             }
-            None => None,
+            at = holder;
         }
+        None
     }
 }

@@ -1,8 +1,9 @@
 // The live items by tape.
-ghost use Rattle.std.specs.Prelude.{◌≡◌, ℕ, ◌+◌, ◌<◌, ◌≤◌, ◌==◌, ◌&&◌, ◌||◌, not, [], IfOk, OnOk};
+ghost use Rattle.std.specs.Prelude.{◌≡◌, ℕ, ◌+◌, ◌<◌, ◌≤◌, ◌==◌, ◌&&◌, ◌||◌, if◌then◌else◌, not, [], Some, None, IfOk, OnOk};
 ghost use Rattle.std.specs.List.{list_any};
 ghost use Rattle.repack_book.specs.declared.items.LiveItem.{LiveItem};
 ghost use Rattle.repack_book.specs.Order.{has_item, is_item};
+ghost use Rattle.repack_book.specs.Walks.{IsFirstFrom};
 
 use cta_site::NoMemory;
 use std::alloc::Global;
@@ -72,6 +73,22 @@ impl Model for LiveItems {
     ghost invariant = { λ x. length x.forest.trees ≡ 1 };
 }
 
+// The copy of an item, where it is one of this file in this repack of this tape.
+fn copy_of(item: LiveItem, tape: u32, repack: u32, file: u32) -> Option<u8>
+    ensures { result ≡ (if (item.tape == tape && item.repack == repack) && item.file == file then Some item.copy else None) }
+{
+    if item.tape != tape {
+        return None;
+    }
+    if item.repack != repack {
+        return None;
+    }
+    if item.file != file {
+        return None;
+    }
+    Some(item.copy)
+}
+
 impl LiveItems {
     // No item, with no room yet. NoMemory gives nothing.
     pub(crate) fn new(alloc: Global) -> Result<LiveItems, NoMemory>
@@ -120,6 +137,21 @@ impl LiveItems {
         match self.forest.from(0, start) {
             Some(first) => first.tape == tape,
             None => false,
+        }
+    }
+    // The first copy of a file from this one on that is live in a repack of a tape.
+    pub(crate) fn copy_from(&self, tape: u32, repack: u32, file: u32, copy: u8) -> Option<u8>
+        ensures { IsFirstFrom (has_item self.now.value tape repack file) copy result }
+    {
+        let start = LiveItem {
+            tape,
+            repack,
+            file,
+            copy,
+        };
+        match self.forest.from(0, start) {
+            Some(first) => copy_of(first, tape, repack, file),
+            None => None,
         }
     }
 }

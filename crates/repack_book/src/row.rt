@@ -9,11 +9,13 @@ ghost use Rattle.cta_model.specs.Repacks.{is_live_item};
 ghost use Rattle.cta_model.specs.History.{has_number};
 ghost use Rattle.part_values.specs.Repacks.{is_reading, is_writing, reading_copies};
 ghost use Rattle.repack_book.specs.Kept.{fresh_repack, set_in};
-ghost use Rattle.repack_book.specs.Live.{has_state};
+ghost use Rattle.repack_book.specs.Live.{has_live, has_state};
+ghost use Rattle.repack_book.specs.Order.{has_item};
 ghost use Rattle.repack_book.specs.Reports.{bare_info, items_told, repack_told};
 ghost use Rattle.repack_book.specs.Walks.{IsFirstFrom};
 
-use crate::states::{States, is_live, reads, state_of, turn, writes};
+use crate::items::LiveItems;
+use crate::states::{States, reads, state_of, turn, writes};
 use cta_model::{ItemState, Job, RepackInfo, RepackItem};
 use cta_site::{NoMemory, Rows, Text};
 use std::alloc::Global;
@@ -98,41 +100,32 @@ impl RepackRow {
         }
     }
 
-    // Whether an item of a copy is live. In constant time.
-    fn is_live(&self, file: u32, copy: u8) -> bool
-        ensures is { result ≡ has_state file copy is_live_item self.now.repack.items }
-        ensures low { (c : ℕ) → has_state file c is_live_item self.now.repack.items ≡ true → c < 256 }
-    {
-        match self.states.get(&(file, copy)).copied() {
-            Some(state) => is_live(state),
-            None => false,
-        }
-    }
-
-    // The first copy of a file from this one on that is READING. Its cost is at most that of 256 look-ups.
-    pub(crate) fn reading(&self, file: u32, from: u8) -> Option<u8>
+    // The first copy of a file from this one on that is READING, by the live items. The repack has this number. It takes no memory, and
+    // its cost is the logarithm of the number of live items, for each copy of the file that is passed over since it is WRITING.
+    pub(crate) fn reading(&self, items: &LiveItems, id: u32, file: u32, from: u8) -> Option<u8>
+        requires { (c : ℕ) → has_item items.now.value self.now.repack.tape id file c ≡ has_live file c self.now.repack.items }
         ensures { IsFirstFrom (λ c. has_number c (reading_copies file (Some self.now.repack))) from result }
     {
-        let _low = self.is_reading(file, from);
-        for copy in from..=255 {
+        let mut at = from;
+        while let Some(copy) = items.copy_from(self.tape, id, file, at) {
             if self.is_reading(file, copy) {
                 return Some(copy);
             }
+            if copy == 255 {
+                return None;
+            }
+            at = copy + 1;
         }
         None
     }
 
-    // Whether an item of a file is live. Its cost is at most that of 256 look-ups.
-    pub(crate) fn pins(&self, file: u32) -> bool
+    // Whether an item of a file is live, by the live items. The repack has this number. Its cost is the logarithm of the number of live
+    // items.
+    pub(crate) fn pins(&self, items: &LiveItems, id: u32, file: u32) -> bool
+        requires { (c : ℕ) → has_item items.now.value self.now.repack.tape id file c ≡ has_live file c self.now.repack.items }
         ensures { result ≡ list_any (λ (i : RepackCopy). i.file == file && is_live_item i.state) self.now.repack.items }
     {
-        let _low = self.is_live(file, 0);
-        for copy in 0..=255 {
-            if self.is_live(file, copy) {
-                return true;
-            }
-        }
-        false
+        items.copy_from(self.tape, id, file, 0).is_some()
     }
 
     // What is told of an item, of which there is one at this place.

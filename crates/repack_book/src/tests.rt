@@ -57,11 +57,12 @@ fn read(rt: &impl Abort, book: &RepackBook) {
 // The file 5 is written, and then done.
 fn write(rt: &impl Abort, book: &mut RepackBook) {
     book.set(7, 5, 1, ItemState::Writing);
+    assert_eq!(rt; book.reading(7, 5, 0), Some(2));
     book.set(7, 5, 2, ItemState::Writing);
     assert_eq!(rt; book.reading(7, 5, 0), None);
     assert_eq!(rt; book.first_writer(5, 1), Some(7));
     assert_eq!(rt; book.next_writer(5, 1, 7), None);
-    assert!(rt; book.is_writing(7, 5, 2) && !book.is_writing(7, 6, 1));
+    assert!(rt; book.is_writing(7, 5, 2) && !book.is_writing(7, 6, 1) && book.pins(7, 5));
     book.set(7, 5, 1, ItemState::Done);
     book.set(7, 5, 2, ItemState::Failed);
     book.set(7, 5, 2, ItemState::Writing);

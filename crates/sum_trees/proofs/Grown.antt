@@ -6,7 +6,7 @@ use Rattle.std.proofs.Math.ListN.{set}
 use Rattle.std.proofs.lemmas.Bool.{eqb-true}
 use Rattle.sum_trees.specs.Sums.{Sums, sum_of}
 use Rattle.sum_trees.specs.Nodes.{Entry, sum_at, has_place, AreApart, items_of}
-use Rattle.sum_trees.specs.Order.{IsSorted, inserted, placed, replaced, unlike, has_like, is_like, first_of}
+use Rattle.sum_trees.specs.Order.{IsSorted, inserted, placed, unlike, has_like, is_like, first_of}
 use Rattle.sum_trees.specs.Trees.{IsTree, HasTree, IsRoot, HasParts, CanFork, Becomes, Forks}
 use Rattle.sum_trees.specs.Changes.{HasSpace, CanEnter, Entered, IsCut, CutFirst, CutLike}
 use Rattle.sum_trees.specs.Searches.{entries_at, TellsFirst, TellsPassing, TellsSum}
@@ -18,7 +18,7 @@ use Rattle.sum_trees.specs.declared.grove.Spares.{Spares}
 use Rattle.sum_trees.specs.declared.grove.Found.{Found}
 use Rattle.sum_trees.proofs.Standing.{no_tree, items_append, sum_is}
 use Rattle.sum_trees.proofs.Searched.{entries_are}
-use Rattle.sum_trees.proofs.Orders.{IsOrder, placed_has, placed_length, placed_apart, placed_items, inserted_sorted, unlike_sorted, unlike_cut, unlike_none, unlike_gone, has_like_at, put_again}
+use Rattle.sum_trees.proofs.Orders.{IsOrder, placed_has, placed_length, placed_apart, placed_items, inserted_sorted, unlike_sorted, unlike_cut, unlike_none, unlike_gone, has_like_at}
 use Rattle.sum_trees.proofs.Stands.{set_here, set_there, set_length, count_least, cut_stands, enter_stands, push_stands, read_back}
 
 -- a slice that was written as a whole
@@ -51,7 +51,7 @@ written_length s old new n e f g =
 
 -- ---- lists of trees
 
-map_get : {A : Type 0} (f : ℕ → List A) (rs : List ℕ) (k : ℕ) → k < length rs → slice_index_or (map f rs) k [] ≡ f (slice_index_or rs k 0)
+pub map_get : {A : Type 0} (f : ℕ → List A) (rs : List ℕ) (k : ℕ) → k < length rs → slice_index_or (map f rs) k [] ≡ f (slice_index_or rs k 0)
 map_get f [] k h = absurd (omega arith)
 map_get f (r ∷ rs) zero h = refl
 map_get f (r ∷ rs) (suc k) h = map_get f rs k (omega arith)
@@ -137,7 +137,7 @@ found_new {T = T} {S = S} m old mid new n root count place room at is f rs spare
 
 -- ---- an item was put in
 
-grove_after : {T S : Type 0} (m : Sums T S) (b : T → T → Bool) (old new : List (Node T S)) (rs : List ℕ) (spares now : Spares) (k r : ℕ) (rest es : List (Entry T)) → IsGrove m b old rs spares → k < length rs
+pub grove_after : {T S : Type 0} (m : Sums T S) (b : T → T → Bool) (old new : List (Node T S)) (rs : List ℕ) (spares now : Spares) (k r : ℕ) (rest es : List (Entry T)) → IsGrove m b old rs spares → k < length rs
     → StandApart m new (now.root ∷ set rs k r) (rest ∷ set (map (entries_at old) rs) k es) 0 → IsSorted b (items_of es) → now.count ≡ length rest → length new ≤ 4294967295
     → GroveBecomes m b old new rs (set rs k r) now k (items_of es)
 grove_after {T = T} m b old new rs spares now k r rest es s lt t sorted counted short = record {
@@ -316,13 +316,13 @@ was_not_taken {T = T} {S = S} m b old mid rs spares k x s lt f =
 
 -- ---- what a grove tells
 
-within_rows : {A B : Type 0} (f : A → B) (rs : List A) (k : ℕ) (trees : List B) → map f rs ≡ trees → k < length trees → k < length rs
+pub within_rows : {A B : Type 0} (f : A → B) (rs : List A) (k : ℕ) (trees : List B) → map f rs ≡ trees → k < length trees → k < length rs
 within_rows f rs k trees e h = let n : length (map f rs) ≡ length rs = map_length f rs in let l : length (map f rs) ≡ length trees = ap length e in omega arith
 
-row_is : {T S : Type 0} (ns : List (Node T S)) (rs : List ℕ) (k : ℕ) (trees : List (List T)) → map (items_at ns) rs ≡ trees → k < length trees → items_at ns (slice_index_or rs k 0) ≡ items_in trees k
+pub row_is : {T S : Type 0} (ns : List (Node T S)) (rs : List ℕ) (k : ℕ) (trees : List (List T)) → map (items_at ns) rs ≡ trees → k < length trees → items_at ns (slice_index_or rs k 0) ≡ items_in trees k
 row_is ns rs k trees e h = sym (map_get (items_at ns) rs k (within_rows (items_at ns) rs k trees e h)) ∙ ap (λ l. items_in l k) e
 
-row_read : (rs : List ℕ) (k r : ℕ) → k < length rs → r ≡ slice_index_or rs k r → r ≡ slice_index_or rs k 0
+pub row_read : (rs : List ℕ) (k r : ℕ) → k < length rs → r ≡ slice_index_or rs k r → r ≡ slice_index_or rs k 0
 row_read [] k r h e = absurd (omega arith)
 row_read (x ∷ rs) zero r h e = e
 row_read (x ∷ rs) (suc k) r h e = row_read rs k r (omega arith) e
@@ -335,7 +335,7 @@ pub record Reads {T S : Type 0} (m : Sums T S) (b : T → T → Bool) (ns ms : L
   pub slice : ms ≡ ns
   pub root : r ≡ slice_index_or rs k r
 
-read_tree : {T S : Type 0} (m : Sums T S) (b : T → T → Bool) (ns ms : List (Node T S)) (rs : List ℕ) (spares : Spares) (k r : ℕ) (trees : List (List T)) → Reads m b ns ms rs spares k r trees → HasTree m ms r (entries_at ns (slice_index_or rs k 0))
+pub read_tree : {T S : Type 0} (m : Sums T S) (b : T → T → Bool) (ns ms : List (Node T S)) (rs : List ℕ) (spares : Spares) (k r : ℕ) (trees : List (List T)) → Reads m b ns ms rs spares k r trees → HasTree m ms r (entries_at ns (slice_index_or rs k 0))
 read_tree {T = T} {S = S} m b ns ms rs spares k r trees d =
     let lt = within_rows (items_at ns) rs k trees d.rows d.within in
     subst (λ (l : List (Node T S)). HasTree m l r (entries_at ns (slice_index_or rs k 0))) (sym d.slice)
@@ -430,18 +430,3 @@ item_gone b x trees now k h e =
     ap (λ l. has_like b x (items_in l k)) e
     ∙ ap (has_like b x) (set_here trees k (unlike b x (items_in trees k)) [] h)
     ∙ unlike_gone b x (items_in trees k)
-
--- the tree in which an item was put again
-pub put_again_tree : {T : Type 0} {b : T → T → Bool} → IsOrder b → (x : T) (trees mid now : List (List T)) (k : ℕ) → k < length trees → has_like b x (items_in trees k) ≡ true → IsSorted b (items_in trees k)
-    → mid ≡ set trees k (unlike b x (items_in trees k)) → now ≡ set mid k (inserted b x (items_in mid k)) → now ≡ set trees k (replaced b x (items_in trees k))
-put_again_tree {b = b} o x trees mid now k lt there sorted was is =
-    let rest = unlike b x (items_in trees k) in
-    is ∙ ap (λ l. set l k (inserted b x (items_in l k))) was
-    ∙ ap (λ l. set (set trees k rest) k (inserted b x l)) (set_here trees k rest [] lt)
-    ∙ set_twice trees k rest (inserted b x rest)
-    ∙ ap (set trees k) (put_again o x (items_in trees k) there sorted)
-  where
-    set_twice : {A : Type 0} (xs : List A) (k : ℕ) (x y : A) → set (set xs k x) k y ≡ set xs k y
-    set_twice [] k x y = refl
-    set_twice (z ∷ xs) zero x y = refl
-    set_twice (z ∷ xs) (suc k) x y = ap (λ l. z ∷ l) (set_twice xs k x y)

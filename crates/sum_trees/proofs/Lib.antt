@@ -9,3 +9,4 @@ pub mod Searched
 pub mod Parted
 pub mod Stands
 pub mod Grown
+pub mod InPlace

@@ -1,8 +1,8 @@
 -- Items in order.
-use Rattle.std.proofs.Common.{◌≡◌, ◌∙◌, ◌+◌, ℕ, List, [], ◌∷◌, ◌++◌, length, Some, None, Bool, true, false, ◌||◌, ◌⊎◌, inl, inr, refl, sym, ap, arith}
+use Rattle.std.proofs.Common.{◌≡◌, ◌∙◌, ◌+◌, ℕ, List, [], ◌∷◌, ◌++◌, length, Some, None, Bool, true, false, ◌||◌, ◌⊎◌, inl, inr, refl, ap, arith}
 use Rattle.std.specs.Prelude.{◌==◌, not, filter, if◌then◌else◌}
 use Rattle.sum_trees.specs.Nodes.{Entry, has_place, AreApart, items_of}
-use Rattle.sum_trees.specs.Order.{GoesFirst, IsSorted, inserted, placed, is_like, replaced, unlike, has_like, first_of}
+use Rattle.sum_trees.specs.Order.{GoesFirst, IsSorted, inserted, placed, is_like, unlike, has_like, first_of}
 use Rattle.sum_trees.proofs.Places.{neither, not_left, not_right}
 
 -- the two rules of an order
@@ -114,7 +114,7 @@ placed_items b e (f ∷ fs) =
 
 -- ---- items like one
 
-like_parts : (a c : Bool) → not (a || c) ≡ true → (a ≡ false) × (c ≡ false)
+pub like_parts : (a c : Bool) → not (a || c) ≡ true → (a ≡ false) × (c ≡ false)
 like_parts true c e = absurd (cc)
 like_parts false true e = absurd (cc)
 like_parts false false e = (refl, refl)
@@ -137,7 +137,7 @@ low_not_like {b = b} o x y z l e =
     let p = like_parts (b x y) (b y x) l in
     not_like_by (b x z) (b z x) (elim (either (b z x) (b x y) (o.splits z x y e)) [ inl h ↦ h | inr h ↦ absurd (clash p.0 h) ])
 
-high_not_like : {T : Type 0} {b : T → T → Bool} → IsOrder b → (x y z : T) → is_like b x y ≡ true → b y z ≡ true → is_like b x z ≡ false
+pub high_not_like : {T : Type 0} {b : T → T → Bool} → IsOrder b → (x y z : T) → is_like b x y ≡ true → b y z ≡ true → is_like b x z ≡ false
 high_not_like {b = b} o x y z l e =
     let p = like_parts (b x y) (b y x) l in
     not_like_of (b x z) (b z x) (elim (either (b y x) (b x z) (o.splits y x z e)) [ inl h ↦ absurd (clash p.1 h) | inr h ↦ h ])
@@ -204,38 +204,14 @@ inserted_sorted {b = b} o x (y ∷ ys) n s =
     other false true e f = refl
     other false false e f = absurd (cc)
 
--- what comes before all others is put in first
-inserted_first : {T : Type 0} (b : T → T → Bool) (x : T) (ys : List T) → GoesFirst b x ys → inserted b x ys ≡ x ∷ ys
-inserted_first b x [] g = refl
-inserted_first b x (y ∷ ys) g = yes_picked (b x y) g.0 (x ∷ y ∷ ys) (y ∷ inserted b x ys)
-  where
-    yes_picked : {A : Type 0} (c : Bool) → c ≡ true → (u v : A) → (if c then u else v) ≡ u
-    yes_picked true e u v = refl
-    yes_picked false e u v = absurd (cc)
-
 like_goes : {T : Type 0} {b : T → T → Bool} → IsOrder b → (x y z : T) → is_like b x y ≡ true → b y z ≡ true → b x z ≡ true
 like_goes {b = b} o x y z l e =
     let p = like_parts (b x y) (b y x) l in
     elim (either (b y x) (b x z) (o.splits y x z e)) [ inl h ↦ absurd (clash p.1 h) | inr h ↦ h ]
 
-like_goes_first : {T : Type 0} {b : T → T → Bool} → IsOrder b → (x y : T) (zs : List T) → is_like b x y ≡ true → GoesFirst b y zs → GoesFirst b x zs
+pub like_goes_first : {T : Type 0} {b : T → T → Bool} → IsOrder b → (x y : T) (zs : List T) → is_like b x y ≡ true → GoesFirst b y zs → GoesFirst b x zs
 like_goes_first o x y [] l g = tt
 like_goes_first o x y (z ∷ zs) l g = (like_goes o x y z l g.0, like_goes_first o x y zs l g.1)
-
--- nothing behind an item is replaced where its like is
-replaced_first : {T : Type 0} {b : T → T → Bool} → IsOrder b → (x y : T) (zs : List T) → is_like b x y ≡ true → GoesFirst b y zs → replaced b x zs ≡ zs
-replaced_first o x y [] l g = refl
-replaced_first {b = b} o x y (z ∷ zs) l g =
-    (λ i. unpicked (is_like b x z) (high_not_like o x y z l g.0) x z i ∷ replaced_first o x y zs l g.1 i)
-
--- an item that is taken out and put in again is replaced
-pub put_again : {T : Type 0} {b : T → T → Bool} → IsOrder b → (x : T) (ys : List T) → has_like b x ys ≡ true → IsSorted b ys → inserted b x (unlike b x ys) ≡ replaced b x ys
-put_again o x [] h s = absurd (cc)
-put_again {b = b} o x (y ∷ ys) h s =
-    elim (is_like b x y) as (λ c. is_like b x y ≡ c → (c || has_like b x ys) ≡ true → inserted b x (if not c then y ∷ unlike b x ys else unlike b x ys) ≡ (if c then x else y) ∷ replaced b x ys) [
-      | true ↦ λ e k. ap (inserted b x) (unlike_first o x y ys e s.0) ∙ inserted_first b x ys (like_goes_first o x y ys e s.0) ∙ ap (λ l. x ∷ l) (sym (replaced_first o x y ys e s.0))
-      | false ↦ λ e k. unpicked (b x y) (is_no (b x y) (λ before. clash (none_before o x y ys before s.0) k)) (x ∷ y ∷ unlike b x ys) (y ∷ inserted b x (unlike b x ys)) ∙ ap (λ l. y ∷ l) (put_again o x ys k s.1)
-    ] refl h
 
 goes_unlike : {T : Type 0} (b : T → T → Bool) (z x : T) (ys : List T) → GoesFirst b z ys → GoesFirst b z (unlike b x ys)
 goes_unlike b z x [] g = tt

@@ -21,7 +21,7 @@ filter_append p (x ∷ xs) ys =
     elim (p x) as (λ c. (if c then x ∷ filter p (xs ++ ys) else filter p (xs ++ ys)) ≡ (if c then x ∷ filter p xs else filter p xs) ++ filter p ys)
     [ true ↦ ap (λ l. x ∷ l) (filter_append p xs ys) | false ↦ filter_append p xs ys ]
 
-picked : {A : Type 0} (c : Bool) → c ≡ true → (x y : A) → (if c then x else y) ≡ x
+pub picked : {A : Type 0} (c : Bool) → c ≡ true → (x y : A) → (if c then x else y) ≡ x
 picked true e x y = refl
 picked false e x y = absurd (clash refl e)
 

@@ -2,7 +2,7 @@
 use Rattle.std.specs.Prelude.{ℕ, ◌≡◌, ◌+◌, ◌<◌, ◌^◌, List, [], ◌∷◌, ◌++◌, Option, Some, None, Bool, true, false, length, is_some}
 use Rattle.sum_trees.specs.Sums.{Sums}
 use Rattle.sum_trees.specs.Nodes.{Entry, node_at, items_of, AreApart, AreSame}
-use Rattle.sum_trees.specs.Order.{IsSorted, placed, is_like, has_like}
+use Rattle.sum_trees.specs.Order.{IsSorted, placed, is_like, has_like, replaced_in}
 use Rattle.sum_trees.specs.Trees.{IsTree, HasTree, Becomes}
 use Rattle.sum_trees.specs.declared.nodes.Node.{Node}
 use Rattle.sum_trees.specs.declared.change.Cut.{Cut}
@@ -55,3 +55,11 @@ abbrev pub CutLike : {T S : Type 0} → Sums T S → (T → T → Bool) → T �
 CutLike {T = T} m b x old new root None = (new ≡ old) × ((es : List (Entry T)) → IsTree m old root es → IsSorted b (items_of es) → has_like b x (items_of es) ≡ false)
 CutLike {T = T} m b x old new root (Some cut) =
     (es : List (Entry T)) → HasTree m old root es → (low : List (Entry T)) × (high : List (Entry T)) × IsCut m old new cut low high es × (is_like b x cut.item ≡ true)
+
+-- a tree of items in order stands at the place
+abbrev pub StandsInOrder : {T S : Type 0} → Sums T S → (T → T → Bool) → List (Node T S) → ℕ → Type 0
+StandsInOrder {T = T} m b ns root = (es : List (Entry T)) × HasTree m ns root es × IsSorted b (items_of es)
+
+-- the item is in the place of its like now, in the tree of items in order, at its old root
+abbrev pub TakesPlace : {T S : Type 0} → Sums T S → (T → T → Bool) → T → List (Node T S) → List (Node T S) → ℕ → Type 0
+TakesPlace {T = T} m b x old new root = (es : List (Entry T)) → HasTree m old root es → IsSorted b (items_of es) → Becomes m old new root (replaced_in b x es)

@@ -34,6 +34,10 @@ unlike b x ys = filter (λ y. not (is_like b x y)) ys
 abbrev pub replaced : {T : Type 0} → (T → T → Bool) → T → List T → List T
 replaced b x ys = map (λ y. if is_like b x y then x else y) ys
 
+-- entries, with this item in the place of those that are like it
+abbrev pub replaced_in : {T : Type 0} → (T → T → Bool) → T → List (Entry T) → List (Entry T)
+replaced_in b x es = map (λ e. (e.0, if is_like b x e.1 then x else e.1)) es
+
 -- whether one of these is like this item
 abbrev pub has_like : {T : Type 0} → (T → T → Bool) → T → List T → Bool
 has_like b x [] = false

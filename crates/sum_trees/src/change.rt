@@ -1,5 +1,5 @@
-// Items that enter a tree and leave it.
-ghost use Rattle.sum_trees.specs.Changes.{CanEnter, Entered, CanJoin, Joined, CutFirst, CutLike};
+// Items that enter a tree, leave it, and change in their place.
+ghost use Rattle.sum_trees.specs.Changes.{CanEnter, Entered, CanJoin, Joined, CutFirst, CutLike, StandsInOrder, TakesPlace};
 ghost use Rattle.sum_trees.specs.Trees.{IsRoot};
 
 use crate::balance::balance;
@@ -117,4 +117,25 @@ pub(crate) fn cut_like<T: Summed>(
             })
         }
     }
+}
+
+// Puts an item in the place of the one that is like it, where there is one, with the sums on the way to it. No node moves.
+pub(crate) fn set_like<T: Summed>(nodes: &mut [Node<T, T::Sum>], root: u32, item: T)
+    requires { StandsInOrder T.sums T.before nodes.old root }
+    ensures { TakesPlace T.sums T.before item nodes.old nodes.new root }
+{
+    let Some(node) = node_of(nodes, root) else {
+        return;
+    };
+    if item.is_before(&node.item) {
+        set_like(nodes, node.left, item);
+        fork(nodes, root, node.item, node.left, node.right);
+        return;
+    }
+    if node.item.is_before(&item) {
+        set_like(nodes, node.right, item);
+        fork(nodes, root, node.item, node.left, node.right);
+        return;
+    }
+    fork(nodes, root, item, node.left, node.right);
 }

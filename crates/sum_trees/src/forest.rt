@@ -4,6 +4,7 @@ ghost use Rattle.sum_trees.specs.Sums.{first_passing, next_passing, sum_of};
 ghost use Rattle.sum_trees.specs.Order.{IsSorted, between, first_after, first_from, first_like, first_of, has_like, inserted, replaced, unlike};
 ghost use Rattle.sum_trees.specs.Forests.{AreEmpty, AreNowhere, items_in};
 
+use crate::change::set_like;
 use crate::grove::{Spares, put_in, take_out};
 use crate::nodes::{NOWHERE, Node, sum_of_tree};
 use crate::passing::{passing_after, passing_item};
@@ -49,7 +50,7 @@ fn empty_roots(alloc: Global, trees: u32) -> Result<Vec<u32>, NoMemory>
 }
 
 // The least number of nodes by which a vector grows, so that a small forest does not move its nodes at every other item.
-const LEAST_STEP: usize = 256;
+const LEAST_STEP: usize = 1_024;
 
 // Makes room for so many more nodes; where the vector grows, for a thirty-second of those that there are, and for the least step.
 fn grow<N>(nodes: &mut Vec<N>, wanted: usize) -> Result<(), NoMemory>
@@ -84,7 +85,7 @@ impl<T: Summed> Forest<T> {
 
     /// Makes room for at least this many more items, and never makes the room smaller. NoMemory changes no item; it is the
     /// answer too where there would be more than 2^32 - 1 nodes. Where the vector grows, it grows by the most of what was asked
-    /// for, a thirty-second of its nodes, and 256 nodes. Its cost is the number of items where the vector grows, and else
+    /// for, a thirty-second of its nodes, and 1,024 nodes. Its cost is the number of items where the vector grows, and else
     /// constant, so that room for items one by one costs a constant for each on average.
     pub fn reserve(&mut self, more: u32) -> Result<(), NoMemory>
         ensures trees { self.new.trees ≡ self.old.trees }
@@ -154,8 +155,8 @@ impl<T: Summed> Forest<T> {
         ensures trees { self.new.trees ≡ slice_set self.old.trees tree (replaced T.before item (items_in self.old.trees tree)) }
         ensures room { self.old.room ≤ self.new.room }
     {
-        let _was = self.take(tree, item);
-        self.insert(tree, item);
+        let root = self.roots[tree as usize];
+        set_like(self.nodes.as_mut_slice(), root, item);
     }
 
     /// The sum of the items of a tree, None exactly where it is empty. A tree has fewer than 2^32 items, in order. Its cost is

@@ -3,7 +3,8 @@ use Rattle.cta_model.specs.History.{has_number}
 use Rattle.part_values.specs.Repacks.{writers_in}
 use Rattle.repack_book.specs.Kept.{Kept, repacks_of}
 use Rattle.repack_book.specs.Order.{has_holder}
-use Rattle.repack_book.proofs.Books.{none_of, skipped, this_one, writer_holds, writer_is}
+use Rattle.repack_book.proofs.Books.{writer_holds, writer_is}
+use Rattle.repack_book.proofs.Walks.{none_of, skipped, this_one}
 use Rattle.repack_book.proofs.book.RepackBook.first_writer.Goals as goal
 
 pub returns-then-is_writing : goal.returns-then-is_writing
