@@ -186,7 +186,8 @@ impl RepackBook {
     }
 
     /// The lowest copy of a file from this one on that the repack is READING, None exactly where there is none. It takes no memory.
-    /// Its cost is the logarithm of the number of live items, for each copy of the file that is passed over since it is WRITING.
+    /// Its cost is the logarithm of the number of live items, and as much for each copy of the file that is passed over since it is
+    /// WRITING.
     pub fn reading(&self, id: u32, file: u32, from: u8) -> Option<u8>
         ensures { IsFirstFrom (λ c. has_number c (reading_copies file (repack_in (repacks_of self.now) id))) from result }
     {

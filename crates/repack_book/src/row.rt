@@ -101,7 +101,8 @@ impl RepackRow {
     }
 
     // The first copy of a file from this one on that is READING, by the live items. The repack has this number. It takes no memory, and
-    // its cost is the logarithm of the number of live items, for each copy of the file that is passed over since it is WRITING.
+    // its cost is the logarithm of the number of live items, and as much for each copy of the file that is passed over since it is
+    // WRITING.
     pub(crate) fn reading(&self, items: &LiveItems, id: u32, file: u32, from: u8) -> Option<u8>
         requires { (c : ℕ) → has_item items.now.value self.now.repack.tape id file c ≡ has_live file c self.now.repack.items }
         ensures { IsFirstFrom (λ c. has_number c (reading_copies file (Some self.now.repack))) from result }
