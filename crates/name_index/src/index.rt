@@ -9,11 +9,12 @@ use std::hash::RandomState;
 use std::marker::Model;
 
 /// Which file each path names. Contracts see the paths with their files. Paths are what strangers choose, so they are hashed
-/// by keys that nobody outside can know.
+/// by keys that nobody outside can know, and as texts, whose bytes are
+/// hashed in one piece.
 #[derive(Drop)]
 pub struct NameIndex {
     alloc: Global,
-    files: HashMap<Vec<u8>, u32, RandomState>,
+    files: HashMap<String, u32, RandomState>,
 }
 
 impl Model for NameIndex {
@@ -41,7 +42,7 @@ impl NameIndex {
         ensures named { OnOk result (NamesAgree self.new (add_name path file self.old)) }
         ensures unchanged { OnErr result (self.new ≡ self.old) }
     {
-        let path = Vec::from_slice(self.alloc, path.as_bytes())?;
+        let path = String::from_str(self.alloc, path.as_str())?;
         self.files.insert(path, file)?;
         Ok(())
     }
@@ -50,7 +51,11 @@ impl NameIndex {
     pub fn file(&self, path: &[u8]) -> Option<u32>
         ensures { result ≡ file_in self.now path.now }
     {
-        self.files.get(path).copied()
+        match str::from_utf8(path) {
+            Ok(path) => self.files.get(path).copied(),
+            // Each path of the index is a text.
+            Err(_) => None,
+        }
     }
 
     /// From then on the path names no file. It gives the file that the path named, None exactly where it named none. It takes
@@ -59,6 +64,9 @@ impl NameIndex {
         ensures named { result ≡ file_in self.old path.now }
         ensures removed { NamesAgree self.new (remove_name path.now self.old) }
     {
-        self.files.remove(path)
+        match str::from_utf8(path) {
+            Ok(path) => self.files.remove(path),
+            Err(_) => None,
+        }
     }
 }

@@ -32,6 +32,12 @@ impl Ahead {
     pub(crate) fn read<R: Read>(&mut self, from: &mut R, to: &mut [u8]) -> Result<usize, Failed>
         ensures { ReadsAtMost result to.new }
     {
+        // A line is taken byte by byte, and most of them are held.
+        if self.start < self.end && to.len() == 1 {
+            to[0] = self.held[self.start];
+            self.start += 1;
+            return Ok(1);
+        }
         if self.start == self.end && to.len() >= CAPACITY {
             return match from.read(to) {
                 Ok(count) => Ok(count),

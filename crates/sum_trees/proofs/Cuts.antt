@@ -165,6 +165,14 @@ can_fork_first m old mid root n cut is r f =
     let q = f o.low (left_root m old root n.item n.left n.right o.low o.high (opened_parts m old root n r.0 r.1 is o)) in
     (q.0, o.high, left_cut_parts m old mid root n cut [] q.0 r.0 r.1 is o q.1)
 
+pub first_held : {T S : Type 0} (m : Sums T S) (old mid : List (Node T S)) (root : ℕ) (n : Node T S) (cut : change.Cut T) → node_at old root ≡ Some n → IsRoot m old root → CutFirst m old mid n.left (Some cut) → node_at mid root ≡ Some n
+first_held m old mid root n cut is r f =
+    let o : Opened m old root n r.0 = opens n r.1.stands is in
+    let p : HasParts m old root n.item n.left n.right o.low o.high = opened_parts m old root n r.0 r.1 is o in
+    let c : Cut o.low (root, n.item) o.high = cut_of o.low (root, n.item) o.high p.apart in
+    let q = f o.low (left_root m old root n.item n.left n.right o.low o.high p) in
+    q.1.same root c.not_low ∙ is
+
 pub left_first_cut : {T S : Type 0} (m : Sums T S) (old mid new : List (Node T S)) (root : ℕ) (n : Node T S) (cut : change.Cut T) (rest : ℕ) → node_at old root ≡ Some n → CutFirst m old mid n.left (Some cut) → Forks m mid new root n.item cut.rest n.right rest
     → CutFirst m old new root (Some (record { place = cut.place; item = cut.item; rest = rest }))
 left_first_cut m old mid new root n cut rest is f forks es t =
@@ -257,6 +265,24 @@ can_fork_right_cut m b x old mid root n cut is r f =
     let o : Opened m old root n r.0 = opens n r.1.stands is in
     let q = f o.high (right_root m old root n.item n.left n.right o.low o.high (opened_parts m old root n r.0 r.1 is o)) in
     (o.low, q.0 ++ q.1, right_cut_parts m old mid root n cut q.0 q.1 r.0 r.1 is o q.2)
+
+pub left_held_cut : {T S : Type 0} (m : Sums T S) (b : T → T → Bool) (x : T) (old mid : List (Node T S)) (root : ℕ) (n : Node T S) (cut : change.Cut T) → node_at old root ≡ Some n → IsRoot m old root
+    → CutLike m b x old mid n.left (Some cut) → node_at mid root ≡ Some n
+left_held_cut m b x old mid root n cut is r f =
+    let o : Opened m old root n r.0 = opens n r.1.stands is in
+    let p : HasParts m old root n.item n.left n.right o.low o.high = opened_parts m old root n r.0 r.1 is o in
+    let c : Cut o.low (root, n.item) o.high = cut_of o.low (root, n.item) o.high p.apart in
+    let q = f o.low (left_root m old root n.item n.left n.right o.low o.high p) in
+    q.2.same root c.not_low ∙ is
+
+pub right_held_cut : {T S : Type 0} (m : Sums T S) (b : T → T → Bool) (x : T) (old mid : List (Node T S)) (root : ℕ) (n : Node T S) (cut : change.Cut T) → node_at old root ≡ Some n → IsRoot m old root
+    → CutLike m b x old mid n.right (Some cut) → node_at mid root ≡ Some n
+right_held_cut m b x old mid root n cut is r f =
+    let o : Opened m old root n r.0 = opens n r.1.stands is in
+    let p : HasParts m old root n.item n.left n.right o.low o.high = opened_parts m old root n r.0 r.1 is o in
+    let c : Cut o.low (root, n.item) o.high = cut_of o.low (root, n.item) o.high p.apart in
+    let q = f o.high (right_root m old root n.item n.left n.right o.low o.high p) in
+    q.2.same root c.not_high ∙ is
 
 pub left_like_cut : {T S : Type 0} (m : Sums T S) (b : T → T → Bool) (x : T) (old mid new : List (Node T S)) (root : ℕ) (n : Node T S) (cut : change.Cut T) (rest : ℕ) → node_at old root ≡ Some n
     → CutLike m b x old mid n.left (Some cut) → Forks m mid new root n.item cut.rest n.right rest → CutLike m b x old new root (Some (record { place = cut.place; item = cut.item; rest = rest }))

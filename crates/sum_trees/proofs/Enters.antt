@@ -138,6 +138,24 @@ can_fork_right m {b = b} order ns mid root k x n right e is p f =
     let o : Opened m ns root n p.0 = opens n p.1.stands e in
     (o.low, placed b (k, x) o.high, right_parts m b ns mid root k x p.0 n right p.1 e o (right_equation m order ns root k x p.0 n p.1 is o) (f o.high (high_space m b ns root k x p.0 n p.1 o)))
 
+-- the node of the root is as it was
+
+pub left_held : {T S : Type 0} (m : Sums T S) (b : T → T → Bool) (ns mid : List (Node T S)) (root k : ℕ) (x : T) (n : Node T S) (left : ℕ) → node_at ns root ≡ Some n → b x n.item ≡ true
+    → CanEnter m b ns root k x → Entered m b ns mid n.left k x left → node_at mid root ≡ Some n
+left_held m b ns mid root k x n left e is p f =
+    let o : Opened m ns root n p.0 = opens n p.1.stands e in
+    let low : Becomes m ns mid left (placed b (k, x) o.low) = f o.low (low_space m b ns root k x p.0 n p.1 o) in
+    let c : Cut (placed b (k, x) o.low) (root, n.item) o.high = cut_of (placed b (k, x) o.low) (root, n.item) o.high (whole_apart m b ns root k x p.0 _ p.1 (left_equation m b ns root k x p.0 n is o)) in
+    low.same root c.not_low ∙ e
+
+pub right_held : {T S : Type 0} (m : Sums T S) {b : T → T → Bool} → IsOrder b → (ns mid : List (Node T S)) (root k : ℕ) (x : T) (n : Node T S) (right : ℕ) → node_at ns root ≡ Some n → b x n.item ≡ false
+    → CanEnter m b ns root k x → Entered m b ns mid n.right k x right → node_at mid root ≡ Some n
+right_held m {b = b} order ns mid root k x n right e is p f =
+    let o : Opened m ns root n p.0 = opens n p.1.stands e in
+    let high : Becomes m ns mid right (placed b (k, x) o.high) = f o.high (high_space m b ns root k x p.0 n p.1 o) in
+    let c : Cut o.low (root, n.item) (placed b (k, x) o.high) = cut_of o.low (root, n.item) (placed b (k, x) o.high) (whole_apart m b ns root k x p.0 _ p.1 (right_equation m order ns root k x p.0 n p.1 is o)) in
+    high.same root c.not_high ∙ e
+
 pub entered_left : {T S : Type 0} (m : Sums T S) (b : T → T → Bool) (old mid new : List (Node T S)) (root k : ℕ) (x : T) (n : Node T S) (left now : ℕ) → node_at old root ≡ Some n → b x n.item ≡ true
     → Entered m b old mid n.left k x left → Forks m mid new root n.item left n.right now → Entered m b old new root k x now
 entered_left m b old mid new root k x n left now e is f1 f2 es p =

@@ -1,9 +1,9 @@
 -- Trees that are turned and put together.
-use Rattle.std.proofs.Common.{◌≡◌, ◌∙◌, ◌<◌, ◌≤◌, ◌+◌, ◌^◌, ℕ, List, ◌∷◌, ◌++◌, length, Option, Some, Bool, true, false, ◌||◌, refl, sym, ap, subst, arith, append_assoc, length-append}
+use Rattle.std.proofs.Common.{◌≡◌, ◌∙◌, ◌<◌, ◌≤◌, ◌+◌, ◌^◌, ℕ, List, ◌∷◌, ◌++◌, length, Option, Some, None, Bool, true, false, ◌||◌, refl, sym, ap, subst, arith, append_assoc, length-append}
 use Rattle.std.specs.Prelude.{◌==◌, is_some}
 use Rattle.sum_trees.specs.Sums.{Sums}
 use Rattle.sum_trees.specs.Nodes.{Entry, node_at, height_at, has_place, AreApart, AreSame}
-use Rattle.sum_trees.specs.Trees.{IsTree, HasTree, IsRoot, HasParts, CanFork, Becomes, Forks, IsMoved}
+use Rattle.sum_trees.specs.Trees.{IsTree, HasTree, IsRoot, HasParts, CanFork, Becomes, Forks, IsMoved, CanSettle, Settles}
 use Rattle.sum_trees.specs.declared.nodes.Node.{Node}
 use Rattle.sum_trees.proofs.Places.{place_append, not_left, not_right, Cut, cut_of, apart_left}
 use Rattle.sum_trees.proofs.Standing.{tree_stays, Opened, opens, height_is_most}
@@ -264,3 +264,19 @@ left_is_root m ns k x left right p = (p.0, left_root m ns k x left right p.0 p.1
 
 pub right_is_root : {T S : Type 0} (m : Sums T S) (ns : List (Node T S)) (k : ℕ) (x : T) (left right : ℕ) → CanFork m ns k x left right → IsRoot m ns right
 right_is_root m ns k x left right p = (p.1, right_root m ns k x left right p.0 p.1 p.2)
+
+-- ---- a node that settles
+
+abbrev node_or : {N : Type 0} → N → Option N → N
+node_or other None = other
+node_or other (Some n) = n
+
+same_node : {N : Type 0} (a b : N) → Some a ≡ Some b → a ≡ b
+same_node a b e = ap (node_or a) e
+
+-- of the item that stands there
+pub can_here : {T S : Type 0} (m : Sums T S) (ns : List (Node T S)) (k : ℕ) (n : Node T S) (left right : ℕ) → CanSettle m ns k left right → node_at ns k ≡ Some n → CanFork m ns k n.item left right
+can_here m ns k n left right p e = subst (λ i. CanFork m ns k i.item left right) (same_node p.0 n (sym p.1 ∙ e)) p.2
+
+pub settled : {T S : Type 0} (m : Sums T S) (old new : List (Node T S)) (k : ℕ) (n : Node T S) (left right root : ℕ) → node_at old k ≡ Some n → Forks m old new k n.item left right root → Settles m old new k left right root
+settled m old new k n left right root e f i is = subst (λ i. Forks m old new k i.item left right root) (same_node n i (sym e ∙ is)) f

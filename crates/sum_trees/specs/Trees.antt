@@ -76,6 +76,14 @@ abbrev pub Forks : {T S : Type 0} → Sums T S → List (Node T S) → List (Nod
 Forks {T = T} m old new k x left right root =
     (low high : List (Entry T)) → HasParts m old k x left right low high → Becomes m old new root (low ++ (k, x) ∷ high)
 
+-- the item of the node at the place and the two trees can be one tree
+abbrev pub CanSettle : {T S : Type 0} → Sums T S → List (Node T S) → ℕ → ℕ → ℕ → Type 0
+CanSettle {T = T} {S = S} m ns k left right = (n : Node T S) × (node_at ns k ≡ Some n) × CanFork m ns k n.item left right
+
+-- they are one tree now
+abbrev pub Settles : {T S : Type 0} → Sums T S → List (Node T S) → List (Node T S) → ℕ → ℕ → ℕ → ℕ → Type 0
+Settles {T = T} {S = S} m old new k left right root = (n : Node T S) → node_at old k ≡ Some n → Forks m old new k n.item left right root
+
 -- the tree has its items, wherever its root is now
 abbrev pub IsMoved : {T S : Type 0} → Sums T S → List (Node T S) → List (Node T S) → ℕ → ℕ → Type 0
 IsMoved {T = T} m old new k root = (es : List (Entry T)) → HasTree m old k es → Becomes m old new root es

@@ -1,7 +1,7 @@
 // Forks whose two heights stay near each other.
-ghost use Rattle.sum_trees.specs.Trees.{CanFork, Forks, IsRoot, IsMoved};
+ghost use Rattle.sum_trees.specs.Trees.{CanFork, CanSettle, Forks, IsRoot, IsMoved, Settles};
 
-use crate::nodes::{Node, fork, height_of, node_of};
+use crate::nodes::{Node, fork, fork_round, height_in, height_of, node_of};
 use crate::summed::Summed;
 
 // The fork of two trees with this item between them, the left tree's item on top where there is one. The place of the whole.
@@ -99,5 +99,28 @@ pub(crate) fn balance<T: Summed>(
         return raise_right(nodes, at, item, left, right);
     }
     fork(nodes, at, item, left, right);
+    at
+}
+
+// The tree of the item that stands at a place with these two trees round it. Where neither side is higher by two or more, its node is
+// written where it stands, and its item is not moved. The place of the whole.
+pub(crate) fn settle<T: Summed>(
+    nodes: &mut [Node<T, T::Sum>],
+    at: u32,
+    left: u32,
+    right: u32,
+) -> u32
+    requires { CanSettle T.sums nodes.old at left right }
+    ensures { Settles T.sums nodes.old nodes.new at left right result }
+{
+    let Some(node) = node_of(nodes, at) else {
+        return at;
+    };
+    let (before, after) = (node_of(nodes, left), node_of(nodes, right));
+    let (low, high) = (height_in(&before), height_in(&after));
+    if low > high + 1 || high > low + 1 {
+        return balance(nodes, at, node.item, left, right);
+    }
+    fork_round(nodes, at, node.item, left, right, &before, &after);
     at
 }

@@ -2,7 +2,7 @@
 ghost use Rattle.sum_trees.specs.Changes.{CanEnter, Entered, CanJoin, Joined, CutFirst, CutLike, StandsInOrder, TakesPlace};
 ghost use Rattle.sum_trees.specs.Trees.{IsRoot};
 
-use crate::balance::balance;
+use crate::balance::{balance, settle};
 use crate::nodes::{NOWHERE, Node, fork, node_of};
 use crate::summed::Summed;
 
@@ -15,22 +15,22 @@ pub(crate) struct Cut<T> {
 }
 
 // Puts an item into a tree at its place in the order, with the node at a place. The place of the whole.
-pub(crate) fn enter<T: Summed>(nodes: &mut [Node<T, T::Sum>], root: u32, at: u32, item: T) -> u32
-    requires { CanEnter T.sums T.before nodes.old root at item }
-    ensures { Entered T.sums T.before nodes.old nodes.new root at item result }
+pub(crate) fn enter<T: Summed>(nodes: &mut [Node<T, T::Sum>], root: u32, at: u32, item: &T) -> u32
+    requires { CanEnter T.sums T.before nodes.old root at item.now }
+    ensures { Entered T.sums T.before nodes.old nodes.new root at item.now result }
 {
     match node_of(nodes, root) {
         None => {
-            fork(nodes, at, item, NOWHERE, NOWHERE);
+            fork(nodes, at, *item, NOWHERE, NOWHERE);
             at
         }
         Some(node) => {
             if item.is_before(&node.item) {
                 let left = enter(nodes, node.left, at, item);
-                return balance(nodes, root, node.item, left, node.right);
+                return settle(nodes, root, left, node.right);
             }
             let right = enter(nodes, node.right, at, item);
-            balance(nodes, root, node.item, node.left, right)
+            settle(nodes, root, node.left, right)
         }
     }
 }
@@ -49,7 +49,7 @@ pub(crate) fn cut_first<T: Summed>(nodes: &mut [Node<T, T::Sum>], root: u32) -> 
                 rest: node.right,
             }),
             Some(cut) => {
-                let rest = balance(nodes, root, node.item, cut.rest, node.right);
+                let rest = settle(nodes, root, cut.rest, node.right);
                 Some(Cut {
                     place: cut.place,
                     item: cut.item,
@@ -75,10 +75,10 @@ fn join<T: Summed>(nodes: &mut [Node<T, T::Sum>], left: u32, right: u32) -> u32
 pub(crate) fn cut_like<T: Summed>(
     nodes: &mut [Node<T, T::Sum>],
     root: u32,
-    like: T,
+    like: &T,
 ) -> Option<Cut<T>>
     requires { IsRoot T.sums nodes.old root }
-    ensures { CutLike T.sums T.before like nodes.old nodes.new root result }
+    ensures { CutLike T.sums T.before like.now nodes.old nodes.new root result }
 {
     match node_of(nodes, root) {
         None => None,
@@ -87,7 +87,7 @@ pub(crate) fn cut_like<T: Summed>(
                 return match cut_like(nodes, node.left, like) {
                     None => None,
                     Some(cut) => {
-                        let rest = balance(nodes, root, node.item, cut.rest, node.right);
+                        let rest = settle(nodes, root, cut.rest, node.right);
                         Some(Cut {
                             place: cut.place,
                             item: cut.item,
@@ -96,11 +96,11 @@ pub(crate) fn cut_like<T: Summed>(
                     }
                 };
             }
-            if node.item.is_before(&like) {
+            if node.item.is_before(like) {
                 return match cut_like(nodes, node.right, like) {
                     None => None,
                     Some(cut) => {
-                        let rest = balance(nodes, root, node.item, node.left, cut.rest);
+                        let rest = settle(nodes, root, node.left, cut.rest);
                         Some(Cut {
                             place: cut.place,
                             item: cut.item,
@@ -120,9 +120,9 @@ pub(crate) fn cut_like<T: Summed>(
 }
 
 // Puts an item in the place of the one that is like it, where there is one, with the sums on the way to it. No node moves.
-pub(crate) fn set_like<T: Summed>(nodes: &mut [Node<T, T::Sum>], root: u32, item: T)
+pub(crate) fn set_like<T: Summed>(nodes: &mut [Node<T, T::Sum>], root: u32, item: &T)
     requires { StandsInOrder T.sums T.before nodes.old root }
-    ensures { TakesPlace T.sums T.before item nodes.old nodes.new root }
+    ensures { TakesPlace T.sums T.before item.now nodes.old nodes.new root }
 {
     let Some(node) = node_of(nodes, root) else {
         return;
@@ -132,10 +132,10 @@ pub(crate) fn set_like<T: Summed>(nodes: &mut [Node<T, T::Sum>], root: u32, item
         fork(nodes, root, node.item, node.left, node.right);
         return;
     }
-    if node.item.is_before(&item) {
+    if node.item.is_before(item) {
         set_like(nodes, node.right, item);
         fork(nodes, root, node.item, node.left, node.right);
         return;
     }
-    fork(nodes, root, item, node.left, node.right);
+    fork(nodes, root, *item, node.left, node.right);
 }

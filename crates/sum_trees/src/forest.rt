@@ -156,7 +156,7 @@ impl<T: Summed> Forest<T> {
         ensures room { self.old.room ≤ self.new.room }
     {
         let root = self.roots[tree as usize];
-        set_like(self.nodes.as_mut_slice(), root, item);
+        set_like(self.nodes.as_mut_slice(), root, &item);
     }
 
     /// The sum of the items of a tree, None exactly where it is empty. A tree has fewer than 2^32 items, in order. Its cost is
@@ -184,7 +184,7 @@ impl<T: Summed> Forest<T> {
         requires tree { tree < length self.now.trees }
         ensures { result ≡ first_after T.before item (items_in self.now.trees tree) }
     {
-        item_after(self.nodes.as_slice(), self.roots[tree as usize], item)
+        item_after(self.nodes.as_slice(), self.roots[tree as usize], &item)
     }
 
     /// The first item of a tree that does not come before this one, None exactly where there is none. The item itself need
@@ -194,7 +194,7 @@ impl<T: Summed> Forest<T> {
         ensures sorted { IsSorted T.before (items_in self.now.trees tree) }
         ensures from { result ≡ first_from T.before item (items_in self.now.trees tree) }
     {
-        item_from(self.nodes.as_slice(), self.roots[tree as usize], item)
+        item_from(self.nodes.as_slice(), self.roots[tree as usize], &item)
     }
 
     /// The item of a tree that is like this one, None exactly where there is none. Its cost is the logarithm of the number of
@@ -205,7 +205,7 @@ impl<T: Summed> Forest<T> {
         ensures had { is_some result ≡ has_like T.before like (items_in self.now.trees tree) }
         ensures like { result ≡ first_like T.before like (items_in self.now.trees tree) }
     {
-        item_like(self.nodes.as_slice(), self.roots[tree as usize], like)
+        item_like(self.nodes.as_slice(), self.roots[tree as usize], &like)
     }
 
     /// The sum of the items of a tree that do not come before `low` and come before `high`, None exactly where there are none.
@@ -214,7 +214,12 @@ impl<T: Summed> Forest<T> {
         requires tree { tree < length self.now.trees }
         ensures { result ≡ sum_of T.sums (between T.before low high (items_in self.now.trees tree)) }
     {
-        sum_of_range(self.nodes.as_slice(), self.roots[tree as usize], low, high)
+        sum_of_range(
+            self.nodes.as_slice(),
+            self.roots[tree as usize],
+            &low,
+            &high,
+        )
     }
 }
 
@@ -239,7 +244,7 @@ impl<T: Sought> Forest<T> {
         passing_after(
             self.nodes.as_slice(),
             self.roots[tree as usize],
-            item,
+            &item,
             wanted,
         )
     }

@@ -38,9 +38,9 @@ fn cut_spare<T: Summed>(nodes: &mut Vec<Node<T, T::Sum>>, root: u32) -> Option<C
 }
 
 // Puts an item into a tree in a vector of nodes.
-fn enter_tree<T: Summed>(nodes: &mut Vec<Node<T, T::Sum>>, root: u32, at: u32, item: T) -> u32
-    requires { CanEnter T.sums T.before nodes.old.items root at item }
-    ensures entered { Entered T.sums T.before nodes.old.items nodes.new.items root at item result }
+fn enter_tree<T: Summed>(nodes: &mut Vec<Node<T, T::Sum>>, root: u32, at: u32, item: &T) -> u32
+    requires { CanEnter T.sums T.before nodes.old.items root at item.now }
+    ensures entered { Entered T.sums T.before nodes.old.items nodes.new.items root at item.now result }
     ensures length { length nodes.new.items ≡ length nodes.old.items }
     ensures len { vec_len nodes.new ≡ vec_len nodes.old }
     ensures capacity { vec_capacity nodes.new ≡ vec_capacity nodes.old }
@@ -101,7 +101,7 @@ pub(crate) fn put_in<T: Summed>(
     ensures room { (min (vec_capacity nodes.old) 4294967295 - vec_len nodes.old) + spares.count ≤ ((min (vec_capacity nodes.new) 4294967295 - vec_len nodes.new) + result.count) + 1 }
 {
     let found = find_place(nodes, spares, item);
-    let root = enter_tree(nodes, roots[tree as usize], found.place, item);
+    let root = enter_tree(nodes, roots[tree as usize], found.place, &item);
     roots[tree as usize] = root;
     found.spares
 }
@@ -128,7 +128,7 @@ pub(crate) fn take_out<T: Summed>(
     ensures room { spares.count ≤ result.spares.count }
     ensures back { result.found ≡ true → spares.count + 1 ≤ result.spares.count }
 {
-    match cut_like(nodes, roots[tree as usize], like) {
+    match cut_like(nodes, roots[tree as usize], &like) {
         None => Removed {
             found: false,
             spares,

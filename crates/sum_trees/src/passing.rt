@@ -39,11 +39,11 @@ pub(crate) fn passing_item<T: Sought>(
 pub(crate) fn passing_after<T: Sought>(
     nodes: &[Node<T, T::Sum>],
     root: u32,
-    item: T,
+    item: &T,
     wanted: T::Wanted,
 ) -> Option<T>
     requires { IsRoot T.sums nodes.now root }
-    ensures { TellsPassing T.sums T.before (λ y. T.before item y && own_passes T.sums (T.passes wanted) y) nodes.now root result }
+    ensures { TellsPassing T.sums T.before (λ y. T.before item.now y && own_passes T.sums (T.passes wanted) y) nodes.now root result }
 {
     match node_of(nodes, root) {
         None => None,

@@ -7,14 +7,14 @@ use crate::nodes::{Node, node_of, sum_around, sum_of_tree};
 use crate::summed::Summed;
 
 // The sum of the items that do not come before this one.
-fn sum_from<T: Summed>(nodes: &[Node<T, T::Sum>], root: u32, low: T) -> Option<T::Sum>
+fn sum_from<T: Summed>(nodes: &[Node<T, T::Sum>], root: u32, low: &T) -> Option<T::Sum>
     requires { IsRoot T.sums nodes.now root }
-    ensures { TellsSum T.sums T.before (λ y. not (T.before y low)) nodes.now root result }
+    ensures { TellsSum T.sums T.before (λ y. not (T.before y low.now)) nodes.now root result }
 {
     match node_of(nodes, root) {
         None => None,
         Some(node) => {
-            if node.item.is_before(&low) {
+            if node.item.is_before(low) {
                 return sum_from(nodes, node.right, low);
             }
             let left = sum_from(nodes, node.left, low);
@@ -25,14 +25,14 @@ fn sum_from<T: Summed>(nodes: &[Node<T, T::Sum>], root: u32, low: T) -> Option<T
 }
 
 // The sum of the items that come before this one.
-fn sum_until<T: Summed>(nodes: &[Node<T, T::Sum>], root: u32, high: T) -> Option<T::Sum>
+fn sum_until<T: Summed>(nodes: &[Node<T, T::Sum>], root: u32, high: &T) -> Option<T::Sum>
     requires { IsRoot T.sums nodes.now root }
-    ensures { TellsSum T.sums T.before (λ y. T.before y high) nodes.now root result }
+    ensures { TellsSum T.sums T.before (λ y. T.before y high.now) nodes.now root result }
 {
     match node_of(nodes, root) {
         None => None,
         Some(node) => {
-            if !node.item.is_before(&high) {
+            if !node.item.is_before(high) {
                 return sum_until(nodes, node.left, high);
             }
             let left = sum_of_tree(nodes, node.left);
@@ -46,19 +46,19 @@ fn sum_until<T: Summed>(nodes: &[Node<T, T::Sum>], root: u32, high: T) -> Option
 pub(crate) fn sum_of_range<T: Summed>(
     nodes: &[Node<T, T::Sum>],
     root: u32,
-    low: T,
-    high: T,
+    low: &T,
+    high: &T,
 ) -> Option<T::Sum>
     requires { IsRoot T.sums nodes.now root }
-    ensures { TellsSum T.sums T.before (λ y. not (T.before y low) && T.before y high) nodes.now root result }
+    ensures { TellsSum T.sums T.before (λ y. not (T.before y low.now) && T.before y high.now) nodes.now root result }
 {
     match node_of(nodes, root) {
         None => None,
         Some(node) => {
-            if node.item.is_before(&low) {
+            if node.item.is_before(low) {
                 return sum_of_range(nodes, node.right, low, high);
             }
-            if !node.item.is_before(&high) {
+            if !node.item.is_before(high) {
                 return sum_of_range(nodes, node.left, low, high);
             }
             let left = sum_from(nodes, node.left, low);

@@ -21,9 +21,9 @@ pub(crate) fn first_item<T: Summed>(nodes: &[Node<T, T::Sum>], root: u32) -> Opt
 }
 
 // The first item that this one comes before.
-pub(crate) fn item_after<T: Summed>(nodes: &[Node<T, T::Sum>], root: u32, item: T) -> Option<T>
+pub(crate) fn item_after<T: Summed>(nodes: &[Node<T, T::Sum>], root: u32, item: &T) -> Option<T>
     requires { IsRoot T.sums nodes.now root }
-    ensures { TellsAfter T.sums T.before nodes.now root item result }
+    ensures { TellsAfter T.sums T.before nodes.now root item.now result }
 {
     match node_of(nodes, root) {
         None => None,
@@ -40,14 +40,14 @@ pub(crate) fn item_after<T: Summed>(nodes: &[Node<T, T::Sum>], root: u32, item: 
 }
 
 // The first item that does not come before this one.
-pub(crate) fn item_from<T: Summed>(nodes: &[Node<T, T::Sum>], root: u32, item: T) -> Option<T>
+pub(crate) fn item_from<T: Summed>(nodes: &[Node<T, T::Sum>], root: u32, item: &T) -> Option<T>
     requires { IsRoot T.sums nodes.now root }
-    ensures { TellsFrom T.sums T.before nodes.now root item result }
+    ensures { TellsFrom T.sums T.before nodes.now root item.now result }
 {
     match node_of(nodes, root) {
         None => None,
         Some(node) => {
-            if node.item.is_before(&item) {
+            if node.item.is_before(item) {
                 return item_from(nodes, node.right, item);
             }
             match item_from(nodes, node.left, item) {
@@ -59,9 +59,9 @@ pub(crate) fn item_from<T: Summed>(nodes: &[Node<T, T::Sum>], root: u32, item: T
 }
 
 // The item that is like this one.
-pub(crate) fn item_like<T: Summed>(nodes: &[Node<T, T::Sum>], root: u32, like: T) -> Option<T>
+pub(crate) fn item_like<T: Summed>(nodes: &[Node<T, T::Sum>], root: u32, like: &T) -> Option<T>
     requires { IsRoot T.sums nodes.now root }
-    ensures { TellsPassing T.sums T.before (is_like T.before like) nodes.now root result }
+    ensures { TellsPassing T.sums T.before (is_like T.before like.now) nodes.now root result }
 {
     match node_of(nodes, root) {
         None => None,
@@ -69,7 +69,7 @@ pub(crate) fn item_like<T: Summed>(nodes: &[Node<T, T::Sum>], root: u32, like: T
             if like.is_before(&node.item) {
                 return item_like(nodes, node.left, like);
             }
-            if node.item.is_before(&like) {
+            if node.item.is_before(like) {
                 return item_like(nodes, node.right, like);
             }
             Some(node.item)

@@ -14,7 +14,7 @@ sum_from-requires g t c κs within =
     (omega arith, (within.0, (within.1, can_cut_right g.T.Summed.sums c.args.nodes.now c.args.root c.in-Some.node (sym c.node_of.ensures ∙ c.in-Some.is) c.requires)))
 
 pub returns-then-is_before : goal.returns-then-is_before
-returns-then-is_before g t c = only_high g.T.Summed.sums g.T.Summed.before (λ y. not (g.T.Summed.before y c.args.low)) (sum_of g.T.Summed.sums) c.args.nodes.now c.args.root c.in-Some.node c.sum_from.result (sym c.node_of.ensures ∙ c.in-Some.is) (ap not (sym c.is_before.ensures ∙ c.if-is_before.true)) (λ z e. ap not (leads (record { one_way = g.met.T.Summed.one_way; splits = g.met.T.Summed.splits }) z c.in-Some.node.item c.args.low e (sym c.is_before.ensures ∙ c.if-is_before.true))) c.sum_from.ensures
+returns-then-is_before g t c = only_high g.T.Summed.sums g.T.Summed.before (λ y. not (g.T.Summed.before y c.args.low.now)) (sum_of g.T.Summed.sums) c.args.nodes.now c.args.root c.in-Some.node c.sum_from.result (sym c.node_of.ensures ∙ c.in-Some.is) (ap not (sym c.is_before.ensures ∙ c.if-is_before.true)) (λ z e. ap not (leads (record { one_way = g.met.T.Summed.one_way; splits = g.met.T.Summed.splits }) z c.in-Some.node.item c.args.low.now e (sym c.is_before.ensures ∙ c.if-is_before.true))) c.sum_from.ensures
 
 pub sum_from-left-requires : goal.sum_from-left-requires
 sum_from-left-requires g t c κs within =
@@ -23,5 +23,5 @@ sum_from-left-requires g t c κs within =
 
 pub returns-else-is_before : goal.returns-else-is_before
 returns-else-is_before g t c =
-    let whole = sum_of_both g.T.Summed.sums g.met.T.Summed.joins g.T.Summed.before (λ y. not (g.T.Summed.before y c.args.low)) (λ y. not (g.T.Summed.before y c.args.low)) (λ z. true) c.args.nodes.now c.args.root c.in-Some.node _ _ (sym c.node_of.ensures ∙ c.in-Some.is) (ap not (sym c.is_before.ensures ∙ c.if-is_before.false)) (λ z e. refl) (λ z e. sym (rising_from (record { one_way = g.met.T.Summed.one_way; splits = g.met.T.Summed.splits }) c.args.low c.in-Some.node.item z e (ap not (sym c.is_before.ensures ∙ c.if-is_before.false)))) c.sum_from-left.ensures (sum_of_whole g.T.Summed.sums g.T.Summed.before c.args.nodes.now c.in-Some.node.right _ c.sum_of_tree-right.ensures) in
+    let whole = sum_of_both g.T.Summed.sums g.met.T.Summed.joins g.T.Summed.before (λ y. not (g.T.Summed.before y c.args.low.now)) (λ y. not (g.T.Summed.before y c.args.low.now)) (λ z. true) c.args.nodes.now c.args.root c.in-Some.node _ _ (sym c.node_of.ensures ∙ c.in-Some.is) (ap not (sym c.is_before.ensures ∙ c.if-is_before.false)) (λ z e. refl) (λ z e. sym (rising_from (record { one_way = g.met.T.Summed.one_way; splits = g.met.T.Summed.splits }) c.args.low.now c.in-Some.node.item z e (ap not (sym c.is_before.ensures ∙ c.if-is_before.false)))) c.sum_from-left.ensures (sum_of_whole g.T.Summed.sums g.T.Summed.before c.args.nodes.now c.in-Some.node.right _ c.sum_of_tree-right.ensures) in
     λ es tree s. ap Some c.sum_around.ensures ∙ whole es tree s

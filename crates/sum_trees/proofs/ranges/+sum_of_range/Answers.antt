@@ -14,7 +14,7 @@ sum_of_range-requires g t c κs within =
     (omega arith, (within.0, (within.1, can_cut_right g.T.Summed.sums c.args.nodes.now c.args.root c.in-Some.node (sym c.node_of.ensures ∙ c.in-Some.is) c.requires)))
 
 pub returns-then-is_before : goal.returns-then-is_before
-returns-then-is_before g t c = only_high g.T.Summed.sums g.T.Summed.before (λ y. not (g.T.Summed.before y c.args.low) && g.T.Summed.before y c.args.high) (sum_of g.T.Summed.sums) c.args.nodes.now c.args.root c.in-Some.node c.sum_of_range.result (sym c.node_of.ensures ∙ c.in-Some.is) (fails_first _ _ (ap not (sym c.is_before.ensures ∙ c.if-is_before.true))) (λ z e. fails_first _ _ (ap not (leads (record { one_way = g.met.T.Summed.one_way; splits = g.met.T.Summed.splits }) z c.in-Some.node.item c.args.low e (sym c.is_before.ensures ∙ c.if-is_before.true)))) c.sum_of_range.ensures
+returns-then-is_before g t c = only_high g.T.Summed.sums g.T.Summed.before (λ y. not (g.T.Summed.before y c.args.low.now) && g.T.Summed.before y c.args.high.now) (sum_of g.T.Summed.sums) c.args.nodes.now c.args.root c.in-Some.node c.sum_of_range.result (sym c.node_of.ensures ∙ c.in-Some.is) (fails_first _ _ (ap not (sym c.is_before.ensures ∙ c.if-is_before.true))) (λ z e. fails_first _ _ (ap not (leads (record { one_way = g.met.T.Summed.one_way; splits = g.met.T.Summed.splits }) z c.in-Some.node.item c.args.low.now e (sym c.is_before.ensures ∙ c.if-is_before.true)))) c.sum_of_range.ensures
 
 pub sum_of_range-requires-then-not-is_before : goal.sum_of_range-requires-then-not-is_before
 sum_of_range-requires-then-not-is_before g t c κs within =
@@ -22,7 +22,7 @@ sum_of_range-requires-then-not-is_before g t c κs within =
     (omega arith, (within.0, (within.1, can_cut_left g.T.Summed.sums c.args.nodes.now c.args.root c.in-Some.node (sym c.node_of.ensures ∙ c.in-Some.is) c.requires)))
 
 pub returns-then-not-is_before : goal.returns-then-not-is_before
-returns-then-not-is_before g t c = only_low g.T.Summed.sums g.T.Summed.before (λ y. not (g.T.Summed.before y c.args.low) && g.T.Summed.before y c.args.high) (sum_of g.T.Summed.sums) c.args.nodes.now c.args.root c.in-Some.node c.sum_of_range-then-not-is_before.result (sym c.node_of.ensures ∙ c.in-Some.is) (fails_last _ _ (sym c.is_before-in-Some.ensures ∙ c.if-not-is_before.true)) (λ z e. fails_last _ _ (until_fails (record { one_way = g.met.T.Summed.one_way; splits = g.met.T.Summed.splits }) c.args.high c.in-Some.node.item z (sym c.is_before-in-Some.ensures ∙ c.if-not-is_before.true) e)) c.sum_of_range-then-not-is_before.ensures
+returns-then-not-is_before g t c = only_low g.T.Summed.sums g.T.Summed.before (λ y. not (g.T.Summed.before y c.args.low.now) && g.T.Summed.before y c.args.high.now) (sum_of g.T.Summed.sums) c.args.nodes.now c.args.root c.in-Some.node c.sum_of_range-then-not-is_before.result (sym c.node_of.ensures ∙ c.in-Some.is) (fails_last _ _ (sym c.is_before-in-Some.ensures ∙ c.if-not-is_before.true)) (λ z e. fails_last _ _ (until_fails (record { one_way = g.met.T.Summed.one_way; splits = g.met.T.Summed.splits }) c.args.high.now c.in-Some.node.item z (sym c.is_before-in-Some.ensures ∙ c.if-not-is_before.true) e)) c.sum_of_range-then-not-is_before.ensures
 
 pub sum_from-left-requires : goal.sum_from-left-requires
 sum_from-left-requires g t c = can_cut_left g.T.Summed.sums c.args.nodes.now c.args.root c.in-Some.node (sym c.node_of.ensures ∙ c.in-Some.is) c.requires
@@ -32,5 +32,5 @@ sum_until-right-requires g t c = can_cut_right g.T.Summed.sums c.args.nodes.now 
 
 pub returns-else-not-is_before : goal.returns-else-not-is_before
 returns-else-not-is_before g t c =
-    let whole = sum_of_both g.T.Summed.sums g.met.T.Summed.joins g.T.Summed.before (λ y. not (g.T.Summed.before y c.args.low) && g.T.Summed.before y c.args.high) (λ y. not (g.T.Summed.before y c.args.low)) (λ y. g.T.Summed.before y c.args.high) c.args.nodes.now c.args.root c.in-Some.node _ _ (sym c.node_of.ensures ∙ c.in-Some.is) (is_last _ _ (ap not (sym c.is_before.ensures ∙ c.if-is_before.false)) ∙ (sym c.is_before-in-Some.ensures ∙ c.if-not-is_before.false)) (λ z e. sym (is_first _ _ (leads (record { one_way = g.met.T.Summed.one_way; splits = g.met.T.Summed.splits }) z c.in-Some.node.item c.args.high e (sym c.is_before-in-Some.ensures ∙ c.if-not-is_before.false)))) (λ z e. sym (is_last _ _ (rising_from (record { one_way = g.met.T.Summed.one_way; splits = g.met.T.Summed.splits }) c.args.low c.in-Some.node.item z e (ap not (sym c.is_before.ensures ∙ c.if-is_before.false))))) c.sum_from-left.ensures c.sum_until-right.ensures in
+    let whole = sum_of_both g.T.Summed.sums g.met.T.Summed.joins g.T.Summed.before (λ y. not (g.T.Summed.before y c.args.low.now) && g.T.Summed.before y c.args.high.now) (λ y. not (g.T.Summed.before y c.args.low.now)) (λ y. g.T.Summed.before y c.args.high.now) c.args.nodes.now c.args.root c.in-Some.node _ _ (sym c.node_of.ensures ∙ c.in-Some.is) (is_last _ _ (ap not (sym c.is_before.ensures ∙ c.if-is_before.false)) ∙ (sym c.is_before-in-Some.ensures ∙ c.if-not-is_before.false)) (λ z e. sym (is_first _ _ (leads (record { one_way = g.met.T.Summed.one_way; splits = g.met.T.Summed.splits }) z c.in-Some.node.item c.args.high.now e (sym c.is_before-in-Some.ensures ∙ c.if-not-is_before.false)))) (λ z e. sym (is_last _ _ (rising_from (record { one_way = g.met.T.Summed.one_way; splits = g.met.T.Summed.splits }) c.args.low.now c.in-Some.node.item z e (ap not (sym c.is_before.ensures ∙ c.if-is_before.false))))) c.sum_from-left.ensures c.sum_until-right.ensures in
     λ es tree s. ap Some c.sum_around.ensures ∙ whole es tree s

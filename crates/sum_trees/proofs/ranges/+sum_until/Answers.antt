@@ -13,7 +13,7 @@ sum_until-requires g t c κs within =
     (omega arith, (within.0, (within.1, can_cut_left g.T.Summed.sums c.args.nodes.now c.args.root c.in-Some.node (sym c.node_of.ensures ∙ c.in-Some.is) c.requires)))
 
 pub returns-then-not-is_before : goal.returns-then-not-is_before
-returns-then-not-is_before g t c = only_low g.T.Summed.sums g.T.Summed.before (λ y. g.T.Summed.before y c.args.high) (sum_of g.T.Summed.sums) c.args.nodes.now c.args.root c.in-Some.node c.sum_until.result (sym c.node_of.ensures ∙ c.in-Some.is) (sym c.is_before.ensures ∙ c.if-not-is_before.true) (λ z e. until_fails (record { one_way = g.met.T.Summed.one_way; splits = g.met.T.Summed.splits }) c.args.high c.in-Some.node.item z (sym c.is_before.ensures ∙ c.if-not-is_before.true) e) c.sum_until.ensures
+returns-then-not-is_before g t c = only_low g.T.Summed.sums g.T.Summed.before (λ y. g.T.Summed.before y c.args.high.now) (sum_of g.T.Summed.sums) c.args.nodes.now c.args.root c.in-Some.node c.sum_until.result (sym c.node_of.ensures ∙ c.in-Some.is) (sym c.is_before.ensures ∙ c.if-not-is_before.true) (λ z e. until_fails (record { one_way = g.met.T.Summed.one_way; splits = g.met.T.Summed.splits }) c.args.high.now c.in-Some.node.item z (sym c.is_before.ensures ∙ c.if-not-is_before.true) e) c.sum_until.ensures
 
 pub sum_until-right-requires : goal.sum_until-right-requires
 sum_until-right-requires g t c κs within =
@@ -22,5 +22,5 @@ sum_until-right-requires g t c κs within =
 
 pub returns-else-not-is_before : goal.returns-else-not-is_before
 returns-else-not-is_before g t c =
-    let whole = sum_of_both g.T.Summed.sums g.met.T.Summed.joins g.T.Summed.before (λ y. g.T.Summed.before y c.args.high) (λ z. true) (λ y. g.T.Summed.before y c.args.high) c.args.nodes.now c.args.root c.in-Some.node _ _ (sym c.node_of.ensures ∙ c.in-Some.is) (sym c.is_before.ensures ∙ c.if-not-is_before.false) (λ z e. sym (leads (record { one_way = g.met.T.Summed.one_way; splits = g.met.T.Summed.splits }) z c.in-Some.node.item c.args.high e (sym c.is_before.ensures ∙ c.if-not-is_before.false))) (λ z e. refl) (sum_of_whole g.T.Summed.sums g.T.Summed.before c.args.nodes.now c.in-Some.node.left _ c.sum_of_tree-left.ensures) c.sum_until-right.ensures in
+    let whole = sum_of_both g.T.Summed.sums g.met.T.Summed.joins g.T.Summed.before (λ y. g.T.Summed.before y c.args.high.now) (λ z. true) (λ y. g.T.Summed.before y c.args.high.now) c.args.nodes.now c.args.root c.in-Some.node _ _ (sym c.node_of.ensures ∙ c.in-Some.is) (sym c.is_before.ensures ∙ c.if-not-is_before.false) (λ z e. sym (leads (record { one_way = g.met.T.Summed.one_way; splits = g.met.T.Summed.splits }) z c.in-Some.node.item c.args.high.now e (sym c.is_before.ensures ∙ c.if-not-is_before.false))) (λ z e. refl) (sum_of_whole g.T.Summed.sums g.T.Summed.before c.args.nodes.now c.in-Some.node.left _ c.sum_of_tree-left.ensures) c.sum_until-right.ensures in
     λ es tree s. ap Some c.sum_around.ensures ∙ whole es tree s

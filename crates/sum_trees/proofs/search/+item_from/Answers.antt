@@ -13,10 +13,10 @@ item_from-requires g t c κs within =
     (omega arith, (within.0, (within.1, can_cut_right g.T.Summed.sums c.args.nodes.now c.args.root c.in-Some.node (sym c.node_of.ensures ∙ c.in-Some.is) c.requires)))
 
 pub returns-in-None : goal.returns-in-None
-returns-in-None g t c = passing_none g.T.Summed.sums g.T.Summed.before (λ y. not (g.T.Summed.before y c.args.item)) c.args.nodes.now c.args.root (sym c.node_of.ensures ∙ c.in-None.is)
+returns-in-None g t c = passing_none g.T.Summed.sums g.T.Summed.before (λ y. not (g.T.Summed.before y c.args.item.now)) c.args.nodes.now c.args.root (sym c.node_of.ensures ∙ c.in-None.is)
 
 pub returns-then-is_before : goal.returns-then-is_before
-returns-then-is_before g t c = passing_high g.T.Summed.sums g.T.Summed.before (λ y. not (g.T.Summed.before y c.args.item)) (rising_from (record { one_way = g.met.T.Summed.one_way; splits = g.met.T.Summed.splits }) c.args.item) c.args.nodes.now c.args.root c.in-Some.node c.item_from.result (sym c.node_of.ensures ∙ c.in-Some.is) (ap not (sym c.is_before.ensures ∙ c.if-is_before.true)) c.item_from.ensures
+returns-then-is_before g t c = passing_high g.T.Summed.sums g.T.Summed.before (λ y. not (g.T.Summed.before y c.args.item.now)) (rising_from (record { one_way = g.met.T.Summed.one_way; splits = g.met.T.Summed.splits }) c.args.item.now) c.args.nodes.now c.args.root c.in-Some.node c.item_from.result (sym c.node_of.ensures ∙ c.in-Some.is) (ap not (sym c.is_before.ensures ∙ c.if-is_before.true)) c.item_from.ensures
 
 pub item_from-requires-in-Some : goal.item_from-requires-in-Some
 item_from-requires-in-Some g t c κs within =
@@ -24,7 +24,7 @@ item_from-requires-in-Some g t c κs within =
     (omega arith, (within.0, (within.1, can_cut_left g.T.Summed.sums c.args.nodes.now c.args.root c.in-Some.node (sym c.node_of.ensures ∙ c.in-Some.is) c.requires)))
 
 pub returns-in-None-item_from : goal.returns-in-None-item_from
-returns-in-None-item_from g t c = passing_root g.T.Summed.sums g.T.Summed.before (λ y. not (g.T.Summed.before y c.args.item)) c.args.nodes.now c.args.root c.in-Some.node (sym c.node_of.ensures ∙ c.in-Some.is) (ap not (sym c.is_before.ensures ∙ c.if-is_before.false)) c.in-None-item_from.ensures
+returns-in-None-item_from g t c = passing_root g.T.Summed.sums g.T.Summed.before (λ y. not (g.T.Summed.before y c.args.item.now)) c.args.nodes.now c.args.root c.in-Some.node (sym c.node_of.ensures ∙ c.in-Some.is) (ap not (sym c.is_before.ensures ∙ c.if-is_before.false)) c.in-None-item_from.ensures
 
 pub returns-in-Some-item_from : goal.returns-in-Some-item_from
-returns-in-Some-item_from g t c = passing_left g.T.Summed.sums g.T.Summed.before (λ y. not (g.T.Summed.before y c.args.item)) c.args.nodes.now c.args.root c.in-Some.node c.in-Some-item_from.first (sym c.node_of.ensures ∙ c.in-Some.is) (ap not (sym c.is_before.ensures ∙ c.if-is_before.false)) c.in-Some-item_from.ensures
+returns-in-Some-item_from g t c = passing_left g.T.Summed.sums g.T.Summed.before (λ y. not (g.T.Summed.before y c.args.item.now)) c.args.nodes.now c.args.root c.in-Some.node c.in-Some-item_from.first (sym c.node_of.ensures ∙ c.in-Some.is) (ap not (sym c.is_before.ensures ∙ c.if-is_before.false)) c.in-Some-item_from.ensures

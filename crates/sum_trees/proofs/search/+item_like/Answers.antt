@@ -13,7 +13,7 @@ item_like-requires g t c κs within =
     (omega arith, (within.0, (within.1, can_cut_left g.T.Summed.sums c.args.nodes.now c.args.root c.in-Some.node (sym c.node_of.ensures ∙ c.in-Some.is) c.requires)))
 
 pub returns-then-is_before : goal.returns-then-is_before
-returns-then-is_before g t c = only_low g.T.Summed.sums g.T.Summed.before (is_like g.T.Summed.before c.args.like) first_of c.args.nodes.now c.args.root c.in-Some.node c.item_like.result (sym c.node_of.ensures ∙ c.in-Some.is) (not_like_first _ _ (sym c.is_before.ensures ∙ c.if-is_before.true)) (λ z e. like_above (record { one_way = g.met.T.Summed.one_way; splits = g.met.T.Summed.splits }) c.args.like c.in-Some.node.item z (sym c.is_before.ensures ∙ c.if-is_before.true) e) c.item_like.ensures
+returns-then-is_before g t c = only_low g.T.Summed.sums g.T.Summed.before (is_like g.T.Summed.before c.args.like.now) first_of c.args.nodes.now c.args.root c.in-Some.node c.item_like.result (sym c.node_of.ensures ∙ c.in-Some.is) (not_like_first _ _ (sym c.is_before.ensures ∙ c.if-is_before.true)) (λ z e. like_above (record { one_way = g.met.T.Summed.one_way; splits = g.met.T.Summed.splits }) c.args.like.now c.in-Some.node.item z (sym c.is_before.ensures ∙ c.if-is_before.true) e) c.item_like.ensures
 
 pub item_like-requires-then-is_before-2 : goal.item_like-requires-then-is_before-2
 item_like-requires-then-is_before-2 g t c κs within =
@@ -21,7 +21,7 @@ item_like-requires-then-is_before-2 g t c κs within =
     (omega arith, (within.0, (within.1, can_cut_right g.T.Summed.sums c.args.nodes.now c.args.root c.in-Some.node (sym c.node_of.ensures ∙ c.in-Some.is) c.requires)))
 
 pub returns-then-is_before-2 : goal.returns-then-is_before-2
-returns-then-is_before-2 g t c = only_high g.T.Summed.sums g.T.Summed.before (is_like g.T.Summed.before c.args.like) first_of c.args.nodes.now c.args.root c.in-Some.node c.item_like-then-is_before-2.result (sym c.node_of.ensures ∙ c.in-Some.is) (not_like_last _ _ (sym c.is_before-in-Some.ensures ∙ c.if-is_before-2.true)) (λ z e. like_below (record { one_way = g.met.T.Summed.one_way; splits = g.met.T.Summed.splits }) c.args.like c.in-Some.node.item z (sym c.is_before-in-Some.ensures ∙ c.if-is_before-2.true) e) c.item_like-then-is_before-2.ensures
+returns-then-is_before-2 g t c = only_high g.T.Summed.sums g.T.Summed.before (is_like g.T.Summed.before c.args.like.now) first_of c.args.nodes.now c.args.root c.in-Some.node c.item_like-then-is_before-2.result (sym c.node_of.ensures ∙ c.in-Some.is) (not_like_last _ _ (sym c.is_before-in-Some.ensures ∙ c.if-is_before-2.true)) (λ z e. like_below (record { one_way = g.met.T.Summed.one_way; splits = g.met.T.Summed.splits }) c.args.like.now c.in-Some.node.item z (sym c.is_before-in-Some.ensures ∙ c.if-is_before-2.true) e) c.item_like-then-is_before-2.ensures
 
 pub returns-else-is_before-2 : goal.returns-else-is_before-2
-returns-else-is_before-2 g t c = like_here g.T.Summed.sums (record { one_way = g.met.T.Summed.one_way; splits = g.met.T.Summed.splits }) c.args.nodes.now c.args.root c.in-Some.node c.args.like (sym c.node_of.ensures ∙ c.in-Some.is) (like_is _ _ (sym c.is_before.ensures ∙ c.if-is_before.false) (sym c.is_before-in-Some.ensures ∙ c.if-is_before-2.false))
+returns-else-is_before-2 g t c = like_here g.T.Summed.sums (record { one_way = g.met.T.Summed.one_way; splits = g.met.T.Summed.splits }) c.args.nodes.now c.args.root c.in-Some.node c.args.like.now (sym c.node_of.ensures ∙ c.in-Some.is) (like_is _ _ (sym c.is_before.ensures ∙ c.if-is_before.false) (sym c.is_before-in-Some.ensures ∙ c.if-is_before-2.false))
