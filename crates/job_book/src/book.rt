@@ -11,8 +11,8 @@ use crate::claims::Claims;
 use crate::waiting::{count_waiting, tell_waiting};
 use cta_model::{Charge, Fault, Job};
 use cta_site::{NoMemory, Rows};
+use number_map::{NumberMap, new_map};
 use std::alloc::Global;
-use std::collections::HashMap;
 use std::marker::Model;
 
 // What stands for a charge that is not there.
@@ -36,14 +36,14 @@ pub(crate) type JobKey = (u32, u32, u8);
 /// `part_values` tells, and for how many more additions there is room.
 #[derive(Drop)]
 pub struct JobBook {
-    pub(crate) waiting: HashMap<(u32, u64), u32>,
-    pub(crate) recalls: HashMap<u32, RecallRow>,
-    pub(crate) archives: HashMap<(u32, u8), u32>,
-    pub(crate) births: HashMap<(u32, u8), u32>,
+    pub(crate) waiting: NumberMap<(u32, u64), u32>,
+    pub(crate) recalls: NumberMap<u32, RecallRow>,
+    pub(crate) archives: NumberMap<(u32, u8), u32>,
+    pub(crate) births: NumberMap<(u32, u8), u32>,
     pub(crate) claims: Claims,
-    pub(crate) counts: HashMap<JobKey, u8>,
-    pub(crate) charges: HashMap<(JobKey, u8), Charge>,
-    pub(crate) named: HashMap<JobKey, u32>,
+    pub(crate) counts: NumberMap<JobKey, u8>,
+    pub(crate) charges: NumberMap<(JobKey, u8), Charge>,
+    pub(crate) named: NumberMap<JobKey, u32>,
     pub(crate) room: u32,
     pub(crate) added: u64,
 }
@@ -68,14 +68,14 @@ impl JobBook {
         ensures { result ≡ record { value = no_rows; room = 0 } }
     {
         JobBook {
-            waiting: HashMap::new(alloc),
-            recalls: HashMap::new(alloc),
-            archives: HashMap::new(alloc),
-            births: HashMap::new(alloc),
+            waiting: new_map(alloc),
+            recalls: new_map(alloc),
+            archives: new_map(alloc),
+            births: new_map(alloc),
             claims: Claims::new(alloc),
-            counts: HashMap::new(alloc),
-            charges: HashMap::new(alloc),
-            named: HashMap::new(alloc),
+            counts: new_map(alloc),
+            charges: new_map(alloc),
+            named: new_map(alloc),
             room: 0,
             added: 0,
         }

@@ -9,15 +9,15 @@ ghost use Rattle.job_book.specs.Maps.{JobKey, is_key};
 use crate::book::JobKey;
 use crate::maps::{make_room, put, take_out};
 use cta_site::NoMemory;
+use number_map::{NumberMap, new_map};
 use std::alloc::Global;
-use std::collections::HashMap;
 use std::marker::Model;
 
 // The claims. Contracts see them as entries by job, and for how many more there is room.
 #[derive(Drop)]
 pub(crate) struct Claims {
-    map: HashMap<JobKey, u32>,
-    counts: HashMap<u32, u64>,
+    map: NumberMap<JobKey, u32>,
+    counts: NumberMap<u32, u64>,
 }
 
 impl Model for Claims {
@@ -34,7 +34,7 @@ impl Model for Claims {
 }
 
 // One more for a mount, for which there is room.
-fn raise(counts: &mut HashMap<u32, u64>, mount: u32)
+fn raise(counts: &mut NumberMap<u32, u64>, mount: u32)
     requires room { 0 < spare counts.old }
     requires fits { counted_in mount counts.old.entries + 1 < 2 ^ 64 }
     ensures counts { (m : ℕ) → counted_in m counts.new.entries ≡ (if mount == m then counted_in m counts.old.entries + 1 else counted_in m counts.old.entries) }
@@ -45,7 +45,7 @@ fn raise(counts: &mut HashMap<u32, u64>, mount: u32)
 }
 
 // One fewer for a mount that has some.
-fn lower(counts: &mut HashMap<u32, u64>, mount: u32)
+fn lower(counts: &mut NumberMap<u32, u64>, mount: u32)
     requires { 0 < counted_in mount counts.old.entries }
     ensures counts { (m : ℕ) → counted_in m counts.new.entries ≡ (if mount == m then counted_in m counts.old.entries - 1 else counted_in m counts.old.entries) }
     ensures room { spare counts.old ≤ spare counts.new }
@@ -56,7 +56,7 @@ fn lower(counts: &mut HashMap<u32, u64>, mount: u32)
 }
 
 // Leaves out a mount that has none.
-fn leave_out(counts: &mut HashMap<u32, u64>, mount: u32)
+fn leave_out(counts: &mut NumberMap<u32, u64>, mount: u32)
     ensures counts { (m : ℕ) → counted_in m counts.new.entries ≡ counted_in m counts.old.entries }
     ensures room { spare counts.old ≤ spare counts.new }
 {
@@ -72,8 +72,8 @@ impl Claims {
         ensures { result.entries ≡ [] }
     {
         Claims {
-            map: HashMap::new(alloc),
-            counts: HashMap::new(alloc),
+            map: new_map(alloc),
+            counts: new_map(alloc),
         }
     }
 

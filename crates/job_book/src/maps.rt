@@ -3,11 +3,14 @@ ghost use Rattle.std.specs.Prelude.{◌≡◌, ◌==◌, ◌+◌, ◌<◌, ◌�
 ghost use Rattle.std.specs.HashMap.{get, spare};
 
 use cta_site::NoMemory;
-use std::collections::HashMap;
+use number_map::NumberMap;
 use std::hash::Hash;
 
 // Makes room for so many more keys.
-pub(crate) fn make_room<K: Eq + Hash, V>(map: &mut HashMap<K, V>, more: u32) -> Result<(), NoMemory>
+pub(crate) fn make_room<K: Eq + Hash, V>(
+    map: &mut NumberMap<K, V>,
+    more: u32,
+) -> Result<(), NoMemory>
     ensures values { (q : K) → get K.eq map.new q ≡ get K.eq map.old q }
     ensures room { OnOk result (more ≤ spare map.new) }
     ensures kept { spare map.old ≤ spare map.new }
@@ -17,7 +20,7 @@ pub(crate) fn make_room<K: Eq + Hash, V>(map: &mut HashMap<K, V>, more: u32) -> 
 }
 
 // Puts a value at a key, for which there is room.
-pub(crate) fn put<K: Eq + Hash + Drop, V: Drop>(map: &mut HashMap<K, V>, key: K, value: V)
+pub(crate) fn put<K: Eq + Hash + Drop, V: Drop>(map: &mut NumberMap<K, V>, key: K, value: V)
     requires { 0 < spare map.old }
     ensures values { (q : K) → get K.eq map.new q ≡ (if K.eq key q then Some value else get K.eq map.old q) }
     ensures room { spare map.old ≤ spare map.new + 1 }
@@ -29,7 +32,7 @@ pub(crate) fn put<K: Eq + Hash + Drop, V: Drop>(map: &mut HashMap<K, V>, key: K,
 }
 
 // Takes a key out.
-pub(crate) fn take_out<K: Eq + Hash + Drop, V: Drop>(map: &mut HashMap<K, V>, key: K)
+pub(crate) fn take_out<K: Eq + Hash + Drop, V: Drop>(map: &mut NumberMap<K, V>, key: K)
     ensures values { (q : K) → get K.eq map.new q ≡ (if K.eq key q then None else get K.eq map.old q) }
     ensures room { spare map.old ≤ spare map.new }
 {

@@ -5,10 +5,10 @@ ghost use Rattle.job_book.specs.Maps.{waiting_in, waits_at, left_out};
 
 use crate::maps::take_out;
 use cta_site::Rows;
-use std::collections::HashMap;
+use number_map::NumberMap;
 
 // Takes an entry out of those that wait for a file's recall, at one place.
-fn forget_at(waiting: &mut HashMap<(u32, u64), u32>, file: u32, at: u64, owner: u32)
+fn forget_at(waiting: &mut NumberMap<(u32, u64), u32>, file: u32, at: u64, owner: u32)
     ensures waits { (f i : ℕ) → waits_at waiting.new.entries f i ≡ (if file == f && at == i then left_out owner (waits_at waiting.old.entries f i) else waits_at waiting.old.entries f i) }
     ensures room { spare waiting.old ≤ spare waiting.new }
 {
@@ -18,7 +18,7 @@ fn forget_at(waiting: &mut HashMap<(u32, u64), u32>, file: u32, at: u64, owner: 
 }
 
 // Takes an entry out of those that wait for a file's recall, at the first so many places.
-pub(crate) fn forget(waiting: &mut HashMap<(u32, u64), u32>, file: u32, places: u64, owner: u32)
+pub(crate) fn forget(waiting: &mut NumberMap<(u32, u64), u32>, file: u32, places: u64, owner: u32)
     ensures waits { (f i : ℕ) → waits_at waiting.new.entries f i ≡ (if file == f && nat_lt i places then left_out owner (waits_at waiting.old.entries f i) else waits_at waiting.old.entries f i) }
     ensures room { spare waiting.old ≤ spare waiting.new }
 {
@@ -28,7 +28,7 @@ pub(crate) fn forget(waiting: &mut HashMap<(u32, u64), u32>, file: u32, places: 
 }
 
 // Takes all that wait for a file's recall out, at the first so many places.
-pub(crate) fn forget_all(waiting: &mut HashMap<(u32, u64), u32>, file: u32, places: u64)
+pub(crate) fn forget_all(waiting: &mut NumberMap<(u32, u64), u32>, file: u32, places: u64)
     ensures waits { (f i : ℕ) → (file == f) ≡ false → waits_at waiting.new.entries f i ≡ waits_at waiting.old.entries f i }
     ensures room { spare waiting.old ≤ spare waiting.new }
 {
@@ -38,7 +38,7 @@ pub(crate) fn forget_all(waiting: &mut HashMap<(u32, u64), u32>, file: u32, plac
 }
 
 // How many wait for a file's recall, at the first so many places.
-pub(crate) fn count_waiting(waiting: &HashMap<(u32, u64), u32>, file: u32, places: u64) -> u64
+pub(crate) fn count_waiting(waiting: &NumberMap<(u32, u64), u32>, file: u32, places: u64) -> u64
     ensures { result ≡ length (waiting_in (waits_at waiting.now.entries file) places) }
 {
     let mut count: u64 = 0;
@@ -52,7 +52,7 @@ pub(crate) fn count_waiting(waiting: &HashMap<(u32, u64), u32>, file: u32, place
 
 // Adds those that wait for a file's recall, at the first so many places, behind a list with room for them.
 pub(crate) fn tell_waiting(
-    waiting: &HashMap<(u32, u64), u32>,
+    waiting: &NumberMap<(u32, u64), u32>,
     file: u32,
     places: u64,
     out: &mut Rows<u32>,

@@ -17,8 +17,8 @@ use crate::row::RepackRow;
 use crate::states::{all_reading, is_live};
 use cta_model::{ItemState, Job, RepackInfo};
 use cta_site::{NoMemory, Rows, Text};
+use number_map::{NumberMap, new_map};
 use std::alloc::Global;
-use std::collections::HashMap;
 use std::marker::Model;
 
 /// The book of repacks. Repacks, tapes and files are named by their numbers, and copies count from 1. Contracts see the repacks by
@@ -26,7 +26,7 @@ use std::marker::Model;
 #[derive(Drop)]
 pub struct RepackBook {
     alloc: Global,
-    rows: HashMap<u32, RepackRow>,
+    rows: NumberMap<u32, RepackRow>,
     items: LiveItems,
     holders: Holders,
 }
@@ -44,7 +44,7 @@ impl Model for RepackBook {
 
 // An item of a kept repack takes the state where it is live. The repack's tape, None where there is no such repack.
 fn set_row(
-    rows: &mut HashMap<u32, RepackRow>,
+    rows: &mut NumberMap<u32, RepackRow>,
     id: u32,
     file: u32,
     copy: u8,
@@ -94,7 +94,7 @@ impl RepackBook {
         let holders = Holders::new(alloc)?;
         Ok(RepackBook {
             alloc,
-            rows: HashMap::new(alloc),
+            rows: new_map(alloc),
             items,
             holders,
         })

@@ -8,11 +8,11 @@ ghost use Rattle.repack_book.specs.States.{state_at, turned_if};
 
 use cta_model::{ItemState, Job};
 use cta_site::NoMemory;
+use number_map::{NumberMap, new_map};
 use std::alloc::Global;
-use std::collections::HashMap;
 
 // States by file and copy.
-pub(crate) type States = HashMap<(u32, u8), ItemState>;
+pub(crate) type States = NumberMap<(u32, u8), ItemState>;
 
 // Whether a state is that of a live item.
 pub(crate) fn is_live(state: ItemState) -> bool
@@ -66,7 +66,7 @@ pub(crate) fn all_reading(alloc: Global, jobs: &[Job]) -> Result<States, NoMemor
     ensures states { IfOk result (λ states. (f c : ℕ) → state_at states.entries f c ≡ (if has_copy f c jobs.now then Some item.Reading else None)) }
     ensures low { IfOk result (λ states. (f c : ℕ) → has_copy f c jobs.now ≡ true → c < 256) }
 {
-    let mut states = HashMap::new(alloc);
+    let mut states = new_map(alloc);
     for job in jobs {
         let key = key_of(job.file, job.copy);
         states.insert(key, ItemState::Reading)?;

@@ -9,9 +9,9 @@ ghost use Rattle.stage_book.specs.Requested.{AreApart, count_of};
 use crate::row::RequestRow;
 use cta_model::{FileState, StageFile, StageInfo};
 use cta_site::{NoMemory, Rows};
+use number_map::{NumberMap, new_map};
 use part_values::FileEnd;
 use std::alloc::Global;
-use std::collections::HashMap;
 use std::hash::RandomState;
 use std::marker::Model;
 
@@ -21,7 +21,7 @@ use std::marker::Model;
 pub struct StageBook {
     alloc: Global,
     keys: RandomState,
-    rows: HashMap<u32, RequestRow>,
+    rows: NumberMap<u32, RequestRow>,
 }
 
 impl Model for StageBook {
@@ -33,7 +33,7 @@ impl Model for StageBook {
 }
 
 // A file of a request is STARTED where it waits.
-fn start_row(rows: &mut HashMap<u32, RequestRow>, id: u32, file: u32, at: u64)
+fn start_row(rows: &mut NumberMap<u32, RequestRow>, id: u32, file: u32, at: u64)
     ensures { RequestsAgree rows.new.entries (said.start id file at rows.old.entries) }
 {
     if let Some(row) = rows.get_mut(&id) {
@@ -42,7 +42,7 @@ fn start_row(rows: &mut HashMap<u32, RequestRow>, id: u32, file: u32, at: u64)
 }
 
 // A file of a request ends so where it waits.
-fn finish_row(rows: &mut HashMap<u32, RequestRow>, id: u32, file: u32, at: u64, end: FileEnd)
+fn finish_row(rows: &mut NumberMap<u32, RequestRow>, id: u32, file: u32, at: u64, end: FileEnd)
     ensures { RequestsAgree rows.new.entries (said.finish id file at end rows.old.entries) }
 {
     if let Some(row) = rows.get_mut(&id) {
@@ -51,7 +51,7 @@ fn finish_row(rows: &mut HashMap<u32, RequestRow>, id: u32, file: u32, at: u64, 
 }
 
 // The file of a path of a request is released.
-fn release_row(rows: &mut HashMap<u32, RequestRow>, id: u32, path: &[u8])
+fn release_row(rows: &mut NumberMap<u32, RequestRow>, id: u32, path: &[u8])
     ensures { RequestsAgree rows.new.entries (release id path.now rows.old.entries) }
 {
     if let Some(row) = rows.get_mut(&id) {
@@ -67,7 +67,7 @@ impl StageBook {
         StageBook {
             alloc,
             keys,
-            rows: HashMap::new(alloc),
+            rows: new_map(alloc),
         }
     }
 

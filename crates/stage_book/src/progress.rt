@@ -8,8 +8,8 @@ ghost use Rattle.stage_book.specs.Progresses.{progress_in};
 
 use cta_model::FileState;
 use cta_site::Text;
+use number_map::NumberMap;
 use part_values::FileEnd;
-use std::collections::HashMap;
 
 // How far a file has come: its state, when it was first STARTED and when it ended, its error, and its place in the request.
 #[derive(Drop)]
@@ -125,7 +125,7 @@ impl Progress {
 }
 
 // A file is STARTED where it waits. In constant time.
-pub(crate) fn start_file(files: &mut HashMap<u32, Progress>, file: u32, at: u64)
+pub(crate) fn start_file(files: &mut NumberMap<u32, Progress>, file: u32, at: u64)
     ensures { (q : ℕ) → progress_in files.new.entries q ≡ (if file == q then option_map (said.started_at at) (progress_in files.old.entries q) else progress_in files.old.entries q) }
 {
     if let Some(kept) = files.get_mut(&file) {
@@ -134,7 +134,7 @@ pub(crate) fn start_file(files: &mut HashMap<u32, Progress>, file: u32, at: u64)
 }
 
 // A file ends so where it waits. In constant time.
-pub(crate) fn finish_file(files: &mut HashMap<u32, Progress>, file: u32, at: u64, end: FileEnd)
+pub(crate) fn finish_file(files: &mut NumberMap<u32, Progress>, file: u32, at: u64, end: FileEnd)
     ensures { (q : ℕ) → progress_in files.new.entries q ≡ (if file == q then option_map (said.ended_at at end) (progress_in files.old.entries q) else progress_in files.old.entries q) }
 {
     if let Some(kept) = files.get_mut(&file) {

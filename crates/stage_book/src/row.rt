@@ -17,6 +17,7 @@ use crate::progress::{Progress, finish_file, fresh, start_file};
 use crate::report::{greatest_finish, least_start, tell, tell_nameless};
 use cta_model::{FileState, StageFile, StageFileInfo, StageInfo};
 use cta_site::{NoMemory, Rows, Text};
+use number_map::{NumberMap, new_map};
 use part_values::FileEnd;
 use std::alloc::Global;
 use std::collections::HashMap;
@@ -32,7 +33,7 @@ type Flags = HashMap<Vec<u8>, bool, RandomState>;
 pub(crate) struct RequestRow {
     moment: u64,
     files: Rows<StageFile>,
-    progress: HashMap<u32, Progress>,
+    progress: NumberMap<u32, Progress>,
     flags: Flags,
 }
 
@@ -50,7 +51,7 @@ impl Model for RequestRow {
 
 // A file at this place has fresh progress from then on; nothing changes where a path named no file. NoMemory changes nothing.
 fn note_file(
-    progress: &mut HashMap<u32, Progress>,
+    progress: &mut NumberMap<u32, Progress>,
     file: Option<u32>,
     place: usize,
 ) -> Result<(), NoMemory>
@@ -66,11 +67,11 @@ fn note_file(
 }
 
 // The progress of the files of a new request. NoMemory gives nothing. Its cost is their number.
-fn fresh_files(alloc: Global, files: &[StageFile]) -> Result<HashMap<u32, Progress>, NoMemory>
+fn fresh_files(alloc: Global, files: &[StageFile]) -> Result<NumberMap<u32, Progress>, NoMemory>
     ensures placed { IfOk result (λ ps. (f : ℕ) → IsPlaced files.now f (progress_in ps.entries f)) }
     ensures fresh { IfOk result (λ ps. (f : ℕ) → IsFresh (progress_in ps.entries f)) }
 {
-    let mut progress = HashMap::new(alloc);
+    let mut progress = new_map(alloc);
     for at in 0..files.len() {
         let file = files[at].file;
         note_file(&mut progress, file, at)?;

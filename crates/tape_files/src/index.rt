@@ -10,9 +10,9 @@ use crate::live::LiveCopy;
 use crate::places::{make_room, put_in, take_out};
 use cta_model::Place;
 use cta_site::NoMemory;
+use number_map::{NumberMap, new_map};
 use part_values::Placed;
 use std::alloc::Global;
-use std::collections::HashMap;
 use std::marker::Model;
 use sum_trees::Forest;
 
@@ -20,7 +20,7 @@ use sum_trees::Forest;
 // Contracts see the copies with their places, how many tapes there are, and for how many more places there is room.
 #[derive(Drop)]
 pub(crate) struct PlaceIndex {
-    map: HashMap<(u32, u8), Place>,
+    map: NumberMap<(u32, u8), Place>,
     forest: Forest<LiveCopy>,
 }
 
@@ -44,7 +44,7 @@ impl PlaceIndex {
         ensures tapes { IfOk result (λ index. index.tapes ≡ tapes) }
     {
         let forest = Forest::new(alloc, tapes)?;
-        let map = HashMap::new(alloc);
+        let map = new_map(alloc);
         Ok(PlaceIndex { map, forest })
     }
 

@@ -6,10 +6,10 @@ ghost use Rattle.tape_files.specs.Kept.{same_copy};
 
 use cta_model::Place;
 use cta_site::NoMemory;
-use std::collections::HashMap;
+use number_map::NumberMap;
 
 // Makes room for so many more copies.
-pub(crate) fn make_room(places: &mut HashMap<(u32, u8), Place>, more: u32) -> Result<(), NoMemory>
+pub(crate) fn make_room(places: &mut NumberMap<(u32, u8), Place>, more: u32) -> Result<(), NoMemory>
     ensures places { (f c : ℕ) → lookup (same_copy (f, c)) places.new.entries ≡ lookup (same_copy (f, c)) places.old.entries }
     ensures unique { IsUnique same_copy places.new }
     ensures room { OnOk result (more ≤ spare places.new) }
@@ -20,7 +20,7 @@ pub(crate) fn make_room(places: &mut HashMap<(u32, u8), Place>, more: u32) -> Re
 }
 
 // Puts the place of a copy, for which there is room.
-pub(crate) fn put_in(places: &mut HashMap<(u32, u8), Place>, file: u32, place: Place)
+pub(crate) fn put_in(places: &mut NumberMap<(u32, u8), Place>, file: u32, place: Place)
     requires { 0 < spare places.old }
     ensures places { (f c : ℕ) → lookup (same_copy (f, c)) places.new.entries ≡ (if file == f && place.copy == c then Some place else lookup (same_copy (f, c)) places.old.entries) }
     ensures unique { IsUnique same_copy places.new }
@@ -33,7 +33,7 @@ pub(crate) fn put_in(places: &mut HashMap<(u32, u8), Place>, file: u32, place: P
 }
 
 // Takes the place of a copy out.
-pub(crate) fn take_out(places: &mut HashMap<(u32, u8), Place>, file: u32, copy: u8)
+pub(crate) fn take_out(places: &mut NumberMap<(u32, u8), Place>, file: u32, copy: u8)
     ensures places { (f c : ℕ) → lookup (same_copy (f, c)) places.new.entries ≡ (if file == f && copy == c then None else lookup (same_copy (f, c)) places.old.entries) }
     ensures unique { IsUnique same_copy places.new }
     ensures room { spare places.old ≤ spare places.new }
