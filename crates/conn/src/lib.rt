@@ -19,6 +19,3 @@ pub use laws::{no_bytes, one_cut, one_message, one_outcome, steps_follow, two_te
 pub use next::Next;
 pub use pieces::answers;
 pub use walk::has_cut;
-
-#[cfg(test)]
-mod tests;

@@ -10,6 +10,3 @@ mod settling;
 mod walks;
 
 pub use buffer::DiskBuffer;
-
-#[cfg(test)]
-mod tests;

@@ -5,6 +5,3 @@ mod copies;
 mod rows;
 
 pub use copies::FailedCopies;
-
-#[cfg(test)]
-mod tests;

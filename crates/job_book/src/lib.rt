@@ -9,6 +9,3 @@ mod maps;
 mod waiting;
 
 pub use book::JobBook;
-
-#[cfg(test)]
-mod tests;

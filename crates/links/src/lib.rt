@@ -8,6 +8,3 @@ mod links;
 
 pub use laws::{begins_empty, each_alone, free_order, one_run, pieces_join, runs_follow};
 pub use links::Links;
-
-#[cfg(test)]
-mod tests;

@@ -4,6 +4,3 @@
 mod choice;
 
 pub use choice::first_of;
-
-#[cfg(test)]
-mod tests;

@@ -4,6 +4,3 @@
 mod index;
 
 pub use index::NameIndex;
-
-#[cfg(test)]
-mod tests;

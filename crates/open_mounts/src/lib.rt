@@ -6,6 +6,3 @@ mod mounts;
 mod rows;
 
 pub use mounts::OpenMounts;
-
-#[cfg(test)]
-mod tests;

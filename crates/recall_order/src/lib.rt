@@ -4,6 +4,3 @@
 mod order;
 
 pub use order::sort_batch;
-
-#[cfg(test)]
-mod tests;

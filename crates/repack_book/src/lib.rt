@@ -10,6 +10,3 @@ mod row;
 mod states;
 
 pub use book::RepackBook;
-
-#[cfg(test)]
-mod tests;

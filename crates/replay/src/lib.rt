@@ -19,8 +19,6 @@ mod service;
 mod site;
 mod status;
 mod step_lines;
-#[cfg(test)]
-mod tests;
 mod top;
 mod words;
 

@@ -7,6 +7,3 @@ mod report;
 mod row;
 
 pub use book::StageBook;
-
-#[cfg(test)]
-mod tests;

@@ -11,8 +11,6 @@ mod ranges;
 mod search;
 mod sought;
 mod summed;
-#[cfg(test)]
-mod tests;
 
 pub use forest::Forest;
 pub use sought::Sought;

@@ -11,6 +11,3 @@ mod tapes;
 
 pub use laws::walks_pass_all;
 pub use table::TapeFiles;
-
-#[cfg(test)]
-mod tests;

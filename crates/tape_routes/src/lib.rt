@@ -21,8 +21,3 @@ pub use laws::{callers_ask, replies_carry_their_content};
 pub use replies::reply_of;
 pub use routed::Routed;
 pub use router::Routes;
-
-#[cfg(test)]
-mod reply_tests;
-#[cfg(test)]
-mod tests;

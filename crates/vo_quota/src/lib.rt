@@ -6,6 +6,3 @@ mod counts;
 mod quota;
 
 pub use quota::VoQuota;
-
-#[cfg(test)]
-mod tests;

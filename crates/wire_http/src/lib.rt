@@ -21,6 +21,3 @@ pub use reply::{Kind, Reply, error_reply, refusal_reply};
 pub use request::Request;
 pub use rules::longest_body;
 pub use written::write_reply;
-
-#[cfg(test)]
-mod tests;

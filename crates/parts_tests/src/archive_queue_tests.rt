@@ -1,0 +1,80 @@
+// A queue of two jobs.
+ghost use Rattle.std.specs.Prelude.{◌≡◌, ◌<◌, ◌≤◌, [], IfSome, length};
+ghost use Rattle.part_values.specs.Queues.{lines_in};
+
+use crate::site::valid_site;
+use archive_queue::ArchiveQueue;
+use cta_model::{Job, Sums};
+use std::alloc::Global;
+use std::test::Fail;
+
+// The job that is added first and comes second.
+const LATER: Job = Job {
+    birth: 2,
+    file: 7,
+    copy: 1,
+};
+
+// The job that is added second and comes first.
+const SOONER: Job = Job {
+    birth: 1,
+    file: 9,
+    copy: 2,
+};
+
+// Adds both jobs to an empty queue.
+fn add_both(queue: &mut ArchiveQueue)
+    requires key { 0 < length queue.old.value }
+    requires room { 2 ≤ queue.old.room }
+    requires empty { lines_in queue.old.value 0 ≡ [] }
+    ensures { length queue.new.value ≡ length queue.old.value }
+{
+    queue.add(0, LATER, 100, 50, 3, 20);
+    queue.add(0, SOONER, 30, 40, 5, 10);
+}
+
+// Two queues, with both jobs in the first one.
+fn filled(alloc: Global) -> Option<ArchiveQueue>
+    ensures { IfSome result (λ queue. 0 < length queue.value) }
+{
+    let site = valid_site(alloc).ok()?;
+    if site.pools().len() < 2 {
+        return None;
+    }
+    let mut queue = ArchiveQueue::new(alloc, &site).ok()?;
+    queue.reserve(2).ok()?;
+    add_both(&mut queue);
+    Some(queue)
+}
+
+// Two jobs stand in their order, with their sums.
+#[test]
+fn jobs_stand_in_order(rt: HostRuntime) -> Result<(), Fail> {
+    let queue = filled(rt.alloc()).ok_or("no queue")?;
+    assert_eq!(rt; queue.front(0), Some(SOONER));
+    assert_eq!(rt; queue.after(0, SOONER), Some(LATER));
+    assert_eq!(rt; queue.after(0, LATER), None);
+    let sums = Sums {
+        files: 2,
+        bytes: 130,
+        least: 30,
+        oldest: SOONER,
+        born: 40,
+        priority: 5,
+        age: 10,
+    };
+    assert_eq!(rt; queue.sums(0), Some(sums));
+    Ok(())
+}
+
+// A job that was taken is not there, and the other one stays.
+#[test]
+fn jobs_leave(rt: HostRuntime) -> Result<(), Fail> {
+    let mut queue = filled(rt.alloc()).ok_or("no queue")?;
+    assert!(rt; queue.take(0, SOONER));
+    assert!(rt; !queue.take(0, SOONER));
+    assert_eq!(rt; queue.front(0), Some(LATER));
+    assert!(rt; queue.take(0, LATER));
+    assert_eq!(rt; queue.sums(0), None);
+    Ok(())
+}

@@ -1,0 +1,36 @@
+use cta_site::{NoMemory, Text};
+use name_index::NameIndex;
+use std::alloc::Global;
+use std::hash::RandomState;
+use std::process::Abort;
+use std::test::Fail;
+
+// Adds a path.
+fn add(index: &mut NameIndex, alloc: Global, path: &str, file: u32) -> Result<(), NoMemory> {
+    index.add(Text::of(String::from_str(alloc, path)?), file)
+}
+
+// Which files three paths name.
+fn compare(rt: &impl Abort, index: &NameIndex, wanted: [Option<u32>; 3]) {
+    let paths: [&[u8]; 3] = [b"/a/b", b"/a/bc", b"/a"];
+    for at in 0..3 {
+        assert_eq!(rt; index.file(paths[at]), wanted[at]);
+    }
+}
+
+// Paths name files, other files, and none.
+#[test]
+fn paths_name_files(rt: HostRuntime) -> Result<(), Fail> {
+    let alloc = rt.alloc();
+    let mut index = NameIndex::new(alloc, RandomState::new(&rt)?);
+    compare(&rt, &index, [None, None, None]);
+    add(&mut index, alloc, "/a/b", 1)?;
+    add(&mut index, alloc, "/a/bc", 2)?;
+    compare(&rt, &index, [Some(1), Some(2), None]);
+    add(&mut index, alloc, "/a/b", 3)?;
+    compare(&rt, &index, [Some(3), Some(2), None]);
+    assert_eq!(rt; index.remove(b"/a/b"), Some(3));
+    assert_eq!(rt; index.remove(b"/a"), None);
+    compare(&rt, &index, [None, Some(2), None]);
+    Ok(())
+}

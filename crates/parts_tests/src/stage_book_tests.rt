@@ -1,0 +1,120 @@
+ghost use Rattle.std.specs.Prelude.{◌≡◌, true};
+ghost use Rattle.stage_book.specs.Requested.{AreApart};
+
+use cta_model::{FileState, StageFile};
+use cta_site::{NoMemory, Rows, Text};
+use part_values::FileEnd;
+use stage_book::StageBook;
+use std::alloc::Global;
+use std::hash::RandomState;
+use std::process::Abort;
+use std::test::Fail;
+
+fn text(alloc: Global, value: &str) -> Result<Text, NoMemory> {
+    let value = String::from_str(alloc, value)?;
+    Ok(Text::of(value))
+}
+
+// Two files and a path that names none.
+fn files(alloc: Global) -> Result<Rows<StageFile>, NoMemory> {
+    let mut files = Vec::new(alloc);
+    for (path, file) in [("/a/5", Some(5)), ("/a", None), ("/a/6", Some(6))] {
+        let path = text(alloc, path)?;
+        files.push(StageFile {
+            path,
+            file,
+            lifetime: 10,
+        })?;
+    }
+    Ok(Rows::of(files))
+}
+
+// Whether no file is named twice, of three.
+fn are_apart(files: &Rows<StageFile>) -> bool
+    ensures { result ≡ true → AreApart files.now.items }
+{
+    match files.as_slice() {
+        [a, b, c] => {
+            if a.file.is_some() && (a.file == b.file || a.file == c.file) {
+                return false;
+            }
+            b.file.is_none() || b.file != c.file
+        }
+        _ => false,
+    }
+}
+
+// A book with one request.
+fn book(rt: &impl Abort, alloc: Global, keys: RandomState) -> Result<StageBook, NoMemory> {
+    let mut book = StageBook::new(alloc, keys);
+    let files = files(alloc)?;
+    assert!(rt; are_apart(&files));
+    book.add(4, 100, files)?;
+    Ok(book)
+}
+
+// What is known of the request.
+fn know(rt: &impl Abort, book: &StageBook) {
+    assert!(rt; book.knows(4) && !book.knows(5));
+    assert!(rt;
+        book.has(4, b"/a/6") && book.has(4, b"/a") && !book.has(4, b"/a/7") && !book.has(5, b"/a")
+    );
+    assert_eq!(rt; book.count(4), 3);
+    assert_eq!(rt; book.count(5), 0);
+    assert_eq!(rt; book.file(4, 2), Some(6));
+    assert_eq!(rt; book.file(4, 1), None);
+    assert_eq!(rt; book.file(4, 3), None);
+    assert!(rt; book.count(4) > 2);
+    assert_eq!(rt; book.path(4, 2), b"/a/6".as_slice());
+    assert_eq!(rt; book.state(4, 0), Some(FileState::Submitted));
+    assert_eq!(rt; book.state(4, 1), Some(FileState::Failed));
+    assert_eq!(rt; book.state(4, 3), None);
+}
+
+// One file is read, and the other one is lost.
+fn run(rt: &impl Abort, alloc: Global, book: &mut StageBook) -> Result<(), NoMemory> {
+    let lost = text(alloc, "lost")?;
+    book.start(4, 5, 110);
+    assert_eq!(rt; book.state(4, 0), Some(FileState::Started));
+    book.finish(4, 5, 120, FileEnd::Completed);
+    book.finish(4, 6, 130, FileEnd::Failed(lost));
+    book.finish(4, 6, 140, FileEnd::Cancelled);
+    assert_eq!(rt; book.pin_end(4, 5), Some(130));
+    assert_eq!(rt; book.pin_end(4, 6), None);
+    assert_eq!(rt; book.pin_end(5, 5), None);
+    book.release(4, b"/a/5");
+    assert_eq!(rt; book.pin_end(4, 5), None);
+    Ok(())
+}
+
+// What is told of the request.
+fn tell(rt: &impl Abort, book: &StageBook) -> Result<(), NoMemory> {
+    let told = book.info(4)?;
+    let Some(told) = told else {
+        assert!(rt; false);
+        return Ok(());
+    };
+    assert_eq!(rt; told.created_at, 100);
+    assert_eq!(rt; told.started_at, Some(110));
+    assert_eq!(rt; told.completed_at, Some(130));
+    let files = told.files.as_slice();
+    assert!(rt; files.len() == 3);
+    assert_eq!(rt; files[0].state, FileState::Completed);
+    assert_eq!(rt; files[0].finished_at, Some(120));
+    assert_eq!(rt; files[2].path.as_str(), "/a/6");
+    assert!(rt; files[0].error.is_none() && files[1].error.is_some() && !files[0].on_disk);
+    assert!(rt; book.info(5)?.is_none());
+    Ok(())
+}
+
+#[test]
+fn a_request_runs(rt: HostRuntime) -> Result<(), Fail> {
+    let alloc = rt.alloc();
+    let mut book = book(&rt, alloc, RandomState::new(&rt)?)?;
+    know(&rt, &book);
+    run(&rt, alloc, &mut book)?;
+    tell(&rt, &book)?;
+    book.remove(4);
+    assert!(rt; !book.knows(4));
+    Ok(())
+}
