@@ -6,8 +6,6 @@ mod crew;
 mod drives;
 mod files;
 mod puts;
-#[cfg(test)]
-mod tests;
 
 pub use crew::{Put, Serves, both, one_then_other};
 pub use drives::{ask_next, own_mount_stays};

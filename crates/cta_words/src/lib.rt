@@ -13,6 +13,3 @@ mod read;
 
 pub use form::{Form, WordsError};
 pub use read::read_words;
-
-#[cfg(test)]
-mod tests;

@@ -19,6 +19,3 @@ pub use laws::{answers_lead_by_phase, steps_hear_answers};
 pub use reports::{Call, Done, ReadEnd, Report, StepLine};
 pub use session::{Memo, Session};
 pub use states::{Asked, Batch, Mounted, Outcome, State};
-
-#[cfg(test)]
-mod tests;

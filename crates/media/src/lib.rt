@@ -15,6 +15,3 @@ pub use drive::{DeviceErr, TapeDrive};
 pub use mem_drive::MemDrive;
 pub use mem_medium::MemMedium;
 pub use planned::Planned;
-
-#[cfg(test)]
-mod tests;

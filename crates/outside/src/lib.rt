@@ -36,8 +36,3 @@ pub use stream::{Failed, Sink, Source};
 pub use tcp_door::TcpDoor;
 pub use tcp_link::TcpLink;
 pub use wall_clock::WallClock;
-
-#[cfg(test)]
-mod link_tests;
-#[cfg(test)]
-mod tests;

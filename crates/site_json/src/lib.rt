@@ -14,8 +14,3 @@ mod stores;
 mod words;
 
 pub use read::read_site;
-
-#[cfg(test)]
-mod tests;
-#[cfg(test)]
-mod valid_tests;

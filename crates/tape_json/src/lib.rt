@@ -21,8 +21,3 @@ pub use body::BodyError;
 pub use lists::read_paths;
 pub use stage::read_stage;
 pub use words::{read_state, read_vid};
-
-#[cfg(test)]
-mod body_tests;
-#[cfg(test)]
-mod report_tests;

@@ -63,32 +63,42 @@ fn given_by_bytes(alloc: Global, bytes: &[u8]) -> Vec<u8> {
     out
 }
 
+// Connections, each with what it gives.
+const CONNECTIONS: [(&[u8], &[u8]); 4] = [
+    (
+        b"PUT /data/atlas/a HTTP/1.1\r\nHost: t\r\nContent-Length: 5\r\nTransfer-Encoding: chunked\r\n\r\nhello",
+        b"two lengths",
+    ),
+    (
+        b"PUT /a HTTP/1.1\r\nhost: t\r\ntransfer-encoding: Chunked\r\n\r\n5;x\r\nhello\r\n003\r\nabc\r\n0\r\nx: y\r\nz:\r\n\r\n\r\nGET / HTTP/1.0\n\nGET",
+        b"PUT/a=helloabc; GET/=! ",
+    ),
+    (
+        b"PUT /a HTTP/1.1\r\nhost: t\r\nexpect: 100-continue\r\ncontent-length: 3\r\n\r\nabc",
+        b"continue PUT/a=abc; ",
+    ),
+    (
+        b"PUT /data/a HTTP/1.1\r\nhost: t\r\ntransfer-encoding: chunked\r\n\r\n2\r\nab\r\n3e7\r\n",
+        b"body too large",
+    ),
+];
+
+// The first place at which a connection that is cut there gives something else.
+fn wrong_cut(alloc: Global, bytes: &[u8], wanted: &[u8]) -> Option<usize> {
+    for cut in 0..bytes.len() + 1 {
+        if given(alloc, bytes, cut).as_slice() != wanted {
+            return Some(cut);
+        }
+    }
+    None
+}
+
 // Connections whole, cut at each byte, and byte by byte.
 #[test]
 fn connections(rt: HostRuntime) {
     let alloc = rt.alloc();
-    let cases: [(&[u8], &[u8]); 4] = [
-        (
-            b"PUT /data/atlas/a HTTP/1.1\r\nHost: t\r\nContent-Length: 5\r\nTransfer-Encoding: chunked\r\n\r\nhello",
-            b"two lengths",
-        ),
-        (
-            b"PUT /a HTTP/1.1\r\nhost: t\r\ntransfer-encoding: Chunked\r\n\r\n5;x\r\nhello\r\n003\r\nabc\r\n0\r\nx: y\r\nz:\r\n\r\n\r\nGET / HTTP/1.0\n\nGET",
-            b"PUT/a=helloabc; GET/=! ",
-        ),
-        (
-            b"PUT /a HTTP/1.1\r\nhost: t\r\nexpect: 100-continue\r\ncontent-length: 3\r\n\r\nabc",
-            b"continue PUT/a=abc; ",
-        ),
-        (
-            b"PUT /data/a HTTP/1.1\r\nhost: t\r\ntransfer-encoding: chunked\r\n\r\n2\r\nab\r\n3e7\r\n",
-            b"body too large",
-        ),
-    ];
-    for (bytes, wanted) in cases {
-        for cut in 0..bytes.len() + 1 {
-            assert_eq!(rt; given(alloc, bytes, cut).as_slice(), wanted);
-        }
+    for (bytes, wanted) in CONNECTIONS {
+        assert_eq!(rt; wrong_cut(alloc, bytes, wanted), None);
         assert_eq!(rt; given_by_bytes(alloc, bytes).as_slice(), wanted);
     }
 }
@@ -134,24 +144,35 @@ fn count_of_answers(alloc: Global) -> Result<usize, AllocError> {
     }
 }
 
-// The length of a chunk line, and what `close` and `answers` do.
+// A chunk line of the greatest length, and one longer.
 #[test]
-fn lengths_and_ends(rt: HostRuntime) {
+fn lengths_of_chunk_lines(rt: HostRuntime) {
     let alloc = rt.alloc();
     for (blanks, wanted) in [(253, b"".as_slice()), (254, b"bad chunk".as_slice())] {
         let text = long_line(alloc, blanks).unwrap_or(Vec::new(alloc));
-        assert_eq!(rt; text.len(), 64 + blanks);
-        assert_eq!(rt; given(alloc, text.as_slice(), 0).as_slice(), wanted);
+        let outcome = given(alloc, text.as_slice(), 0);
+        assert_eq!(rt; (text.len(), outcome.as_slice()), (64 + blanks, wanted));
     }
-    assert_eq!(rt; given_closed(alloc).len(), 0);
-    assert_eq!(rt; count_of_answers(alloc).unwrap_or(0), 1);
+}
+
+// What `close` and `answers` do.
+#[test]
+fn ends(rt: HostRuntime) {
+    let alloc = rt.alloc();
+    let closed = given_closed(alloc).len();
+    let answered = count_of_answers(alloc).unwrap_or(0);
+    assert_eq!(rt; [closed, answered, continue_text().len()], [0, 1, 25]);
+}
+
+// The laws, each called once.
+#[test]
+fn laws() {
     one_message();
     one_cut();
     two_texts();
     steps_follow();
     one_outcome();
     no_bytes();
-    assert_eq!(rt; continue_text().len(), 25);
     has_cut(1000, b"GET /a HTTP/1.1\r\nhost: t\r\n\r\nGE");
 }
 

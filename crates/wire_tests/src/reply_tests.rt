@@ -8,7 +8,6 @@ use cta_model::{Answer, Refusal};
 use cta_site::{Rows, ValidSite};
 use std::alloc::Global;
 use std::sync::Arc;
-use std::test::Fail;
 use tape_routes::reply_of;
 use wire_http::write_reply;
 
@@ -91,16 +90,16 @@ fn plain_said(alloc: Global, site: &ValidSite) -> bool {
         && refused(alloc, site)
 }
 
-// The same, and with a content too, on a site that is let go.
-fn all_said(alloc: Global, site: ValidSite, blob: Blob) -> (bool, bool) {
-    (plain_said(alloc, &site), bytes(alloc, &site, blob))
+// The same, and with a content too, where there is memory for a site and the content.
+fn all_said(alloc: Global) -> Option<(bool, bool)> {
+    let blob = blob_of(alloc, "hello")?;
+    let site = site_of(alloc)?;
+    let said = (plain_said(alloc, &site), bytes(alloc, &site, blob));
+    drop(site);
+    Some(said)
 }
 
 #[test]
-fn replies_to_answers(rt: HostRuntime) -> Result<(), Fail> {
-    let alloc = rt.alloc();
-    let blob = blob_of(alloc, "hello")?.ok_or("no blob")?;
-    let site = site_of(alloc).expect(&rt, "a site");
-    assert_eq!(rt; all_said(alloc, site, blob), (true, true));
-    Ok(())
+fn replies_to_answers(rt: HostRuntime) {
+    assert_eq!(rt; all_said(rt.alloc()), Some((true, true)));
 }

@@ -3,22 +3,19 @@ ghost use Rattle.std.specs.Prelude.{◌<◌, ◌≡◌, IfSome, length, true};
 ghost use Rattle.media.specs.Memory.{mem_drive};
 ghost use Rattle.drive_session.specs.Answers.{is_asking};
 
-use crate::{Report, Session, StepLine};
 use cta_model::{Answer, Ask, Direction, Hand, Refusal};
 use cta_site::{NoMemory, ValidSite};
+use drive_session::{Report, Session, StepLine};
 use media::{MemDrive, MemMedium};
 use site_json::read_site;
 use std::alloc::Global;
-use std::test::Fail;
 
 const SITE: &str =
     r#"{"classes":[{"copies":1,"name":"raw","vo":"atlas"}],"defaultPolicy":"std","directories":[{"class":"raw","path":"/atlas"}],"drives":[{"library":"L1","name":"d1"}],"endpoint":"https://tape.example.org/api/v1","libraries":["L1"],"limits":{"archiveBytes":100,"archiveFiles":1,"batchFiles":10,"buffer":1000,"file":1000,"history":1000,"lifetime":60,"retrieveBytes":100,"retrieveFiles":1,"tries":3},"policies":[{"archiveMinAge":10,"archivePriority":1,"name":"std","retrieveMinAge":10,"retrievePriority":1}],"pools":[{"name":"p1","vo":"atlas"}],"repackPolicy":"std","routes":[{"class":"raw","copy":1,"pool":"p1"}],"sitename":"T1","tapes":[{"capacity":1000,"library":"L1","pool":"p1","state":"ACTIVE","vid":"V1"}],"version":1,"vos":[{"name":"atlas","readDrives":1,"writeDrives":1}]}"#;
 
 fn site_of(alloc: Global) -> Option<ValidSite> {
-    match read_site(alloc, SITE.as_bytes()) {
-        Ok(site) => site.check(alloc).ok(),
-        Err(_) => None,
-    }
+    let site = read_site(alloc, SITE.as_bytes()).ok()?;
+    site.check(alloc).ok()
 }
 
 // Whether a report is a Next of the first drive alone.
@@ -34,9 +31,13 @@ fn started(alloc: Global, site: &ValidSite) -> Option<Session<MemDrive>>
     let mut session: Session<MemDrive> = Session::new(alloc, 0);
     let mut drive = MemDrive::new(alloc, Vec::new(alloc));
     let report = session.work(&mut drive);
-    if report.ask.is_some() && asks_next(&report) {
+    let is_open = report.ask.is_some() && asks_next(&report);
+    drop(report);
+    drop(drive);
+    if is_open {
         Some(session)
     } else {
+        drop(session);
         None
     }
 }
@@ -50,11 +51,9 @@ fn answered(
     requires { is_asking session.asked ≡ true }
 {
     let line = session.take(Ok((answer, hand)));
-    if session.line() == line {
-        Some(line)
-    } else {
-        None
-    }
+    let told = session.line();
+    drop(session);
+    if told == line { Some(line) } else { None }
 }
 
 // The line of a first step whose Next comes back with this answer.
@@ -87,7 +86,9 @@ fn repeats(mut session: Session<MemDrive>) -> bool
     requires { is_asking session.asked ≡ true }
 {
     let ask = Ask::Next { drive: 0 };
-    session.take(Err((NoMemory, ask, Hand::Nothing))) == StepLine::Memory
+    let line = session.take(Err((NoMemory, ask, Hand::Nothing)));
+    drop(session);
+    line == StepLine::Memory
 }
 
 fn refused_lines(alloc: Global, site: &ValidSite) -> bool
@@ -113,18 +114,21 @@ fn mounts(alloc: Global, site: &ValidSite) -> bool
     first_line(alloc, site, answer, hand) == Some(StepLine::Mount { direction, tape })
 }
 
-fn run(alloc: Global) -> bool {
-    let Some(site) = site_of(alloc) else {
-        return false;
-    };
+fn are_told(alloc: Global, site: &ValidSite) -> bool {
     !site.drives().is_empty()
-        && refused_lines(alloc, &site)
-        && mounts(alloc, &site)
-        && asks_again(alloc, &site)
+        && refused_lines(alloc, site)
+        && mounts(alloc, site)
+        && asks_again(alloc, site)
+}
+
+fn run(alloc: Global) -> Option<bool> {
+    let site = site_of(alloc)?;
+    let told = are_told(alloc, &site);
+    drop(site);
+    Some(told)
 }
 
 #[test]
-fn first_steps(rt: HostRuntime) -> Result<(), Fail> {
-    assert!(rt; run(rt.alloc()));
-    Ok(())
+fn first_steps(rt: HostRuntime) {
+    assert_eq!(rt; run(rt.alloc()), Some(true));
 }

@@ -1,9 +1,8 @@
 // What the example's valid site answers by its calls, with ample memory.
-use crate::read_site;
-use crate::tests::EXAMPLE;
+use crate::site_tests::EXAMPLE;
 use cta_site::{Rows, Text, ValidSite};
+use site_json::read_site;
 use std::alloc::Global;
-use std::test::Fail;
 
 // Whether the site's texts are those of the example.
 fn has_texts(site: &ValidSite) -> bool {
@@ -31,11 +30,9 @@ fn limits_told(site: &ValidSite) -> [u64; 10] {
     ]
 }
 
-// A site's limits, its lists' lengths, what it finds by name, and whether its texts are those of the example.
-type Answers = ([u64; 10], [usize; 11], [Option<u32>; 6], bool);
-
-fn answers(site: &ValidSite) -> Answers {
-    let lengths = [
+// The lengths of a site's lists, in the order of the file's members.
+fn lengths(site: &ValidSite) -> [usize; 11] {
+    [
         site.vos().len(),
         site.classes().len(),
         site.pools().len(),
@@ -47,37 +44,42 @@ fn answers(site: &ValidSite) -> Answers {
         site.drives().len(),
         site.directories().len(),
         site.failures().len(),
-    ];
-    let found = [
+    ]
+}
+
+// What a site finds by name.
+fn found(site: &ValidSite) -> [Option<u32>; 6] {
+    [
         site.class_of(b"/atlas/a"),
         site.class_of(b"/atlasx/a"),
         site.drive_of(b"d1"),
         site.drive_of(b"d"),
         site.tape_of(b"V1"),
         Some(site.policy_of(b"alice", b"atlas")),
-    ];
-    (
-        limits_told(site),
-        lengths,
-        found,
-        has_texts(site) && site.copies_of(b"/atlas/a") == 1,
-    )
+    ]
+}
+
+// A site's limits, its lists' lengths, what it finds by name, and whether its texts are those of the example.
+type Answers = ([u64; 10], [usize; 11], [Option<u32>; 6], bool);
+
+fn answers(site: &ValidSite) -> Answers {
+    let is_told = has_texts(site) && site.copies_of(b"/atlas/a") == 1;
+    (limits_told(site), lengths(site), found(site), is_told)
+}
+
+// A copy of a text of these characters.
+fn copied(alloc: Global, characters: &str) -> Option<Text> {
+    let string = String::from_str(alloc, characters).ok()?;
+    Text::of(string).copy().ok()
 }
 
 // A list of two texts, made with room for both.
 fn listed(alloc: Global) -> Option<Rows<Text>> {
     let mut rows = Rows::of(Vec::new(alloc));
     for characters in ["V1", "V2"] {
-        let Ok(string) = String::from_str(alloc, characters) else {
-            return None;
-        };
-        let Ok(text) = Text::of(string).copy() else {
-            return None;
-        };
-        match rows.reserve(1) {
-            Ok(()) => rows.push(text),
-            Err(_) => return None,
-        }
+        let text = copied(alloc, characters)?;
+        rows.reserve(1).ok()?;
+        rows.push(text);
     }
     Some(rows)
 }
@@ -86,11 +88,13 @@ fn listed(alloc: Global) -> Option<Rows<Text>> {
 fn example_site(alloc: Global) -> Option<Answers> {
     let site = read_site(alloc, EXAMPLE.as_bytes()).ok()?;
     let valid = site.check(alloc).ok()?;
-    Some(answers(&valid))
+    let told = answers(&valid);
+    drop(valid);
+    Some(told)
 }
 
 #[test]
-fn example_answers(rt: HostRuntime) -> Result<(), Fail> {
+fn example_answers(rt: HostRuntime) {
     let wanted = (
         [1000, 1000, 100, 100, 1, 1, 10, 3, 1000, 60],
         [1, 1, 1, 1, 1, 0, 1, 1, 1, 1, 0],
@@ -98,10 +102,13 @@ fn example_answers(rt: HostRuntime) -> Result<(), Fail> {
         true,
     );
     assert_eq!(rt; example_site(rt.alloc()), Some(wanted));
+}
+
+#[test]
+fn list_of_two(rt: HostRuntime) {
     let two = match listed(rt.alloc()) {
         Some(rows) => rows.len(),
         None => 0,
     };
     assert_eq!(rt; two, 2);
-    Ok(())
 }

@@ -2,8 +2,8 @@
 ghost use Rattle.std.specs.Prelude.{◌≡◌, ◌+◌, ◌<◌, IfOk, IfSome, length};
 ghost use Rattle.turn_hall.specs.Handles.{IsPassOf, first_of, seats_in};
 
-use crate::{Put, Serves, ask_next, both, one_then_other, put_file};
 use archive::Archive;
+use archive_hall::{Put, Serves, ask_next, both, one_then_other, put_file};
 use archive_turns::{ArchiveBack, ArchiveCall};
 use blob::Blob;
 use cta_model::{Answer, Direction, Locality, Look, Refusal, Told, Who};
@@ -30,10 +30,7 @@ impl Told for Blank {
 }
 
 fn site_of(alloc: Global) -> Option<ValidSite> {
-    match read_site(alloc, SITE.as_bytes()) {
-        Ok(site) => site.check(alloc).ok(),
-        Err(_) => None,
-    }
+    read_site(alloc, SITE.as_bytes()).ok()?.check(alloc).ok()
 }
 
 // A medium for one tape.
@@ -49,18 +46,14 @@ fn media_of(alloc: Global) -> Option<Vec<Blank>>
 fn archive_of(alloc: Global, keys: RandomState) -> Option<Archive<Blank>>
     ensures { IfSome result (λ archive. 0 < length archive.site.drives.items) }
 {
-    let site = site_of(alloc)?;
-    if site.drives().len() < 1 {
-        return None;
-    }
-    if site.tapes().len() != 1 {
-        return None;
-    }
     let media = media_of(alloc)?;
-    match Archive::new(alloc, site, media, keys) {
-        Ok(archive) => Some(archive),
-        Err(_) => None,
+    let site = site_of(alloc)?;
+    if site.drives().len() < 1 || site.tapes().len() != 1 {
+        drop(site);
+        drop(media);
+        return None;
     }
+    Archive::new(alloc, site, media, keys).ok()
 }
 
 fn text(alloc: Global, text: &str) -> Result<Text, AllocError> {

@@ -1,8 +1,7 @@
 // Runs of the public call, with ample memory.
-use crate::read_site;
-use cta_site::{Site, SiteError, TapeState};
+use cta_site::{Limits, Site, SiteError, TapeState};
+use site_json::read_site;
 use std::alloc::{AllocError, Global};
-use std::test::Fail;
 
 // The smallest site that keeps all rules, with a member that is unknown. `tests/site-members` changes it member by member.
 const SMALLEST: &str =
@@ -14,10 +13,9 @@ pub(crate) const EXAMPLE: &str =
 
 // The rule and the item that a file breaks, None where it is read; rule 0 stands for want of memory.
 fn fault_of(alloc: Global, bytes: &[u8]) -> Option<(u8, u32)> {
-    match read_site(alloc, bytes) {
-        Ok(_) => None,
-        Err(SiteError::Fault { rule, item }) => Some((rule, item)),
-        Err(SiteError::NoMemory) => Some((0, 0)),
+    match read_site(alloc, bytes).err()? {
+        SiteError::Fault { rule, item } => Some((rule, item)),
+        SiteError::NoMemory => Some((0, 0)),
     }
 }
 
@@ -29,15 +27,18 @@ fn blank_fault(alloc: Global, bytes: usize) -> Result<Option<(u8, u32)>, AllocEr
 }
 
 #[test]
-fn long_files(rt: HostRuntime) -> Result<(), Fail> {
-    assert_eq!(rt; blank_fault(rt.alloc(), 16_777_216)?, None);
-    assert_eq!(rt; blank_fault(rt.alloc(), 16_777_217)?, Some((1, 0)));
-    Ok(())
+fn long_files(rt: HostRuntime) {
+    let alloc = rt.alloc();
+    let faults = [
+        blank_fault(alloc, 16_777_216),
+        blank_fault(alloc, 16_777_217),
+    ];
+    assert_eq!(rt; faults, [Ok(None), Ok(Some((1, 0)))]);
 }
 
 // Whether a site keeps all rules of a site.
 fn is_valid(alloc: Global, site: Site) -> bool {
-    site.check(alloc).is_ok()
+    site.check(alloc).err().is_none()
 }
 
 // Whether the example's texts and limits are read as they stand.
@@ -45,13 +46,18 @@ fn has_example(site: &Site) -> bool {
     site.version == 1
         && site.sitename.is(b"T1")
         && site.endpoint.is(b"https://tape.example.org/api/v1")
-        && site.limits.buffer == 1000
-        && site.limits.archive_bytes == 100
-        && site.limits.batch_files == 10
-        && site.limits.tries == 3
-        && site.limits.lifetime == 60
+        && has_limits(&site.limits)
         && site.rules.len() == 0
         && site.failures.len() == 0
+}
+
+// Whether the example's limits are read as they stand.
+fn has_limits(limits: &Limits) -> bool {
+    limits.buffer == 1000
+        && limits.archive_bytes == 100
+        && limits.batch_files == 10
+        && limits.tries == 3
+        && limits.lifetime == 60
 }
 
 // Whether the example's first tape and policy are read as they stand.
@@ -68,12 +74,25 @@ fn has_elements(site: &Site) -> bool {
     }
 }
 
+// The same of the site of a file, where it can be read.
+fn is_valid_file(alloc: Global, text: &str) -> Option<bool> {
+    let site = read_site(alloc, text.as_bytes()).ok()?;
+    Some(is_valid(alloc, site))
+}
+
+// Whether the example is read as it stands, where it can be read.
+fn is_example(alloc: Global) -> Option<bool> {
+    let site = read_site(alloc, EXAMPLE.as_bytes()).ok()?;
+    Some(has_example(&site) && has_elements(&site))
+}
+
 #[test]
-fn sites(rt: HostRuntime) -> Result<(), Fail> {
+fn sites(rt: HostRuntime) {
     let alloc = rt.alloc();
-    let example = read_site(alloc, EXAMPLE.as_bytes())?;
-    assert!(rt; has_example(&example) && has_elements(&example) && is_valid(alloc, example));
-    let smallest = read_site(alloc, SMALLEST.as_bytes())?;
-    assert!(rt; is_valid(alloc, smallest));
-    Ok(())
+    let valid = [
+        is_valid_file(alloc, EXAMPLE),
+        is_valid_file(alloc, SMALLEST),
+    ];
+    assert_eq!(rt; valid, [Some(true), Some(true)]);
+    assert_eq!(rt; is_example(alloc), Some(true));
 }

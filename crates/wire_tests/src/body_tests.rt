@@ -1,8 +1,8 @@
 // Bodies of requests, with ample memory.
-use crate::{BodyError, read_paths, read_stage, read_state, read_vid};
 use cta_site::TapeState;
 use std::alloc::{AllocError, Global};
 use std::test::Fail;
+use tape_json::{BodyError, read_paths, read_stage, read_state, read_vid};
 
 fn word_of(error: BodyError) -> &'static str {
     match error {
@@ -46,85 +46,90 @@ fn vid_word(alloc: Global, body: &str) -> (&'static str, usize) {
     }
 }
 
-// Stage bodies, each with its value or its first fault.
-const STAGE_BODIES: [(&str, (&str, usize, Option<u64>)); 16] = [
-    (r#"{"files":[{"path":"/a"}]}"#, ("ok", 2, None)),
-    (
-        r#"{"files":[{"path":"/a","diskLifetime":null}]}"#,
-        ("ok", 2, None),
-    ),
+// Stage bodies, each with the length of its last path, and with its last lifetime.
+const STAGE_BODIES: [(&str, usize, Option<u64>); 5] = [
+    (r#"{"files":[{"path":"/a"}]}"#, 2, None),
+    (r#"{"files":[{"path":"/a","diskLifetime":null}]}"#, 2, None),
     (
         r#"{"files":[{"path":"/a","path":"/bc","more":1}],"x":[]}"#,
-        ("ok", 3, None),
+        3,
+        None,
     ),
     (
         r#"{"files":[{"path":"/a"},{"path":"","diskLifetime":"PT1S"}]}"#,
-        ("ok", 0, Some(1)),
+        0,
+        Some(1),
     ),
-    (
-        r#"{"files":[{"path":"/a","targetedMetadata":7}]}"#,
-        ("ok", 2, None),
-    ),
-    (
-        r#"{"files":[{"path":"/a","diskLifetime":3600}]}"#,
-        ("bad lifetime", 0, None),
-    ),
-    (
-        r#"{"files":[{"path":"/a","diskLifetime":"x"}]}"#,
-        ("bad lifetime", 0, None),
-    ),
-    (
-        r#"{"files":[{"path":"/a","diskLifetime":"x"},{"path":1}]}"#,
-        ("bad body", 0, None),
-    ),
-    (r#"{"files":[]}"#, ("empty list", 0, None)),
-    (r#"{"files":{}}"#, ("bad body", 0, None)),
-    (r#"{"files":null}"#, ("bad body", 0, None)),
-    (r#"{"files":["/a"]}"#, ("bad body", 0, None)),
-    (r#"{"paths":["/a"]}"#, ("bad body", 0, None)),
-    (r#"[{"path":"/a"}]"#, ("bad body", 0, None)),
-    (r#"{"files":[{"path":"/a"}]"#, ("bad body", 0, None)),
-    ("", ("bad body", 0, None)),
+    (r#"{"files":[{"path":"/a","targetedMetadata":7}]}"#, 2, None),
 ];
 
 // The first of these bodies that is read otherwise.
 fn wrong_stage_body(alloc: Global) -> Option<&'static str> {
-    for (body, wanted) in STAGE_BODIES {
-        if last_wanted(alloc, body) != wanted {
+    for (body, len, lifetime) in STAGE_BODIES {
+        if last_wanted(alloc, body) != ("ok", len, lifetime) {
             return Some(body);
         }
     }
     None
 }
 
-// The seconds of lifetimes (ISO 8601), None where they are bad.
-const LIFETIMES: [(&str, Option<u64>); 26] = [
-    ("P0Y", Some(0)),
-    ("P0M", Some(0)),
-    ("PT0S", Some(0)),
-    ("-PT0S", Some(0)),
-    ("-PT1S", None),
-    ("-PT0.5S", None),
-    ("P1Y", None),
-    ("P1M", None),
-    ("PT1M", Some(60)),
-    ("PT0.5H", Some(1800)),
-    ("PT0.5S", Some(0)),
-    ("PT1.9S", Some(1)),
-    ("PT24H", Some(86_400)),
-    ("P1D", Some(86_400)),
-    ("P1W", Some(604_800)),
-    ("P1W2DT3H4M5S", Some(788_645)),
-    ("+PT1S", Some(1)),
-    ("pt1h", Some(3600)),
-    ("PT631107417600S", Some(631_107_417_600)),
-    ("PT631107417601S", Some(631_107_417_600)),
-    ("1 hour", None),
-    ("24h", None),
-    ("", None),
-    ("P", None),
-    ("PT", None),
-    ("PT1S ", None),
+// Stage bodies that are refused, each with its first fault.
+const STAGE_FAULTS: [(&str, &str); 11] = [
+    (
+        r#"{"files":[{"path":"/a","diskLifetime":3600}]}"#,
+        "bad lifetime",
+    ),
+    (
+        r#"{"files":[{"path":"/a","diskLifetime":"x"}]}"#,
+        "bad lifetime",
+    ),
+    (
+        r#"{"files":[{"path":"/a","diskLifetime":"x"},{"path":1}]}"#,
+        "bad body",
+    ),
+    (r#"{"files":[]}"#, "empty list"),
+    (r#"{"files":{}}"#, "bad body"),
+    (r#"{"files":null}"#, "bad body"),
+    (r#"{"files":["/a"]}"#, "bad body"),
+    (r#"{"paths":["/a"]}"#, "bad body"),
+    (r#"[{"path":"/a"}]"#, "bad body"),
+    (r#"{"files":[{"path":"/a"}]"#, "bad body"),
+    ("", "bad body"),
+];
+
+// The first of these bodies that is read, or has another fault.
+fn wrong_stage_fault(alloc: Global) -> Option<&'static str> {
+    for (body, fault) in STAGE_FAULTS {
+        if last_wanted(alloc, body) != (fault, 0, None) {
+            return Some(body);
+        }
+    }
+    None
+}
+
+// The seconds of lifetimes (ISO 8601).
+const LIFETIMES: [(&str, u64); 16] = [
+    ("P0Y", 0),
+    ("P0M", 0),
+    ("PT0S", 0),
+    ("-PT0S", 0),
+    ("PT1M", 60),
+    ("PT0.5H", 1800),
+    ("PT0.5S", 0),
+    ("PT1.9S", 1),
+    ("PT24H", 86_400),
+    ("P1D", 86_400),
+    ("P1W", 604_800),
+    ("P1W2DT3H4M5S", 788_645),
+    ("+PT1S", 1),
+    ("pt1h", 3600),
+    ("PT631107417600S", 631_107_417_600),
+    ("PT631107417601S", 631_107_417_600),
+];
+
+// Lifetimes that are bad.
+const BAD_LIFETIMES: [&str; 10] = [
+    "-PT1S", "-PT0.5S", "P1Y", "P1M", "1 hour", "24h", "", "P", "PT", "PT1S ",
 ];
 
 // What a lifetime is read as.
@@ -136,19 +141,24 @@ fn lifetime_of(alloc: Global, text: &str) -> Result<(&'static str, Option<u64>),
     Ok((word, lifetime))
 }
 
-// The first of these lifetimes that is read otherwise.
-fn wrong_lifetime(alloc: Global) -> Result<Option<&'static str>, AllocError> {
-    for (text, wanted) in LIFETIMES {
-        let word = if wanted.is_some() {
-            "ok"
-        } else {
-            "bad lifetime"
-        };
-        if lifetime_of(alloc, text)? != (word, wanted) {
-            return Ok(Some(text));
+// The first of the lifetimes that is read otherwise.
+fn wrong_lifetime(alloc: Global) -> Option<&'static str> {
+    for (text, seconds) in LIFETIMES {
+        if lifetime_of(alloc, text) != Ok(("ok", Some(seconds))) {
+            return Some(text);
         }
     }
-    Ok(None)
+    None
+}
+
+// The first of the bad lifetimes that is read, or has another fault.
+fn read_bad_lifetime(alloc: Global) -> Option<&'static str> {
+    for text in BAD_LIFETIMES {
+        if lifetime_of(alloc, text) != Ok(("bad lifetime", None)) {
+            return Some(text);
+        }
+    }
+    None
 }
 
 // A stage body of 1,000 files from f0000 to f0999.
@@ -238,23 +248,46 @@ fn wrong_state(alloc: Global) -> Option<&'static str> {
 #[test]
 fn bodies(rt: HostRuntime) {
     let alloc = rt.alloc();
-    assert_eq!(rt; wrong_stage_body(alloc), None);
-    assert_eq!(rt; wrong_lifetime(alloc), Ok(None));
+    let stage = [wrong_stage_body(alloc), wrong_stage_fault(alloc)];
+    assert_eq!(rt; stage, [None, None]);
     assert_eq!(rt; wrong_paths(alloc), None);
     assert_eq!(rt; wrong_state(alloc), None);
-    assert_eq!(rt; vid_word(alloc, r#"{"vid":"V00001"}"#), ("ok", 6));
-    assert_eq!(rt; vid_word(alloc, r#"{"vid":1}"#), ("bad body", 0));
+}
+
+#[test]
+fn lifetimes(rt: HostRuntime) {
+    let alloc = rt.alloc();
+    let wrong = [wrong_lifetime(alloc), read_bad_lifetime(alloc)];
+    assert_eq!(rt; wrong, [None, None]);
+}
+
+#[test]
+fn bodies_with_a_vid(rt: HostRuntime) {
+    let alloc = rt.alloc();
+    let words = [
+        vid_word(alloc, r#"{"vid":"V00001"}"#),
+        vid_word(alloc, r#"{"vid":1}"#),
+    ];
+    assert_eq!(rt; words, [("ok", 6), ("bad body", 0)]);
+}
+
+// The length of the body of 1,000 files, and how many of them are read as they stand.
+fn thousand_read(alloc: Global) -> Result<(usize, usize), Fail> {
+    let body = thousand_files(alloc)?;
+    Ok((body.len(), days_in_order(alloc, body.as_str())?))
+}
+
+// What the VID of a body that nests so deep is read as.
+fn nested_word(alloc: Global, depth: usize) -> Result<(&'static str, usize), AllocError> {
+    let body = nested(alloc, depth)?;
+    Ok(vid_word(alloc, body.as_str()))
 }
 
 #[test]
 fn large_and_deep_bodies(rt: HostRuntime) -> Result<(), Fail> {
     let alloc = rt.alloc();
-    let body = thousand_files(alloc)?;
-    assert_eq!(rt; body.len(), 107_011);
-    assert_eq!(rt; days_in_order(alloc, body.as_str())?, 1000);
-    let allowed = nested(alloc, 127)?;
-    assert_eq!(rt; vid_word(alloc, allowed.as_str()), ("ok", 2));
-    let deep = nested(alloc, 128)?;
-    assert_eq!(rt; vid_word(alloc, deep.as_str()), ("bad body", 0));
+    assert_eq!(rt; thousand_read(alloc)?, (107_011, 1000));
+    let words = [nested_word(alloc, 127), nested_word(alloc, 128)];
+    assert_eq!(rt; words, [Ok(("ok", 2)), Ok(("bad body", 0))]);
     Ok(())
 }

@@ -1,0 +1,7 @@
+//! The tests of media and of drive sessions, which call each of them as the crates above do.
+#![tactic(auto)]
+
+#[cfg(test)]
+mod media_tests;
+#[cfg(test)]
+mod session_tests;
