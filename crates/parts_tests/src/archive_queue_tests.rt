@@ -5,6 +5,7 @@ ghost use Rattle.part_values.specs.Queues.{lines_in};
 use crate::site::valid_site;
 use archive_queue::ArchiveQueue;
 use cta_model::{Job, Sums};
+use cta_site::ValidSite;
 use std::alloc::Global;
 use std::test::Fail;
 
@@ -34,26 +35,38 @@ fn add_both(queue: &mut ArchiveQueue)
 }
 
 // Two queues, with both jobs in the first one.
+fn filled_over(alloc: Global, site: &ValidSite) -> Option<ArchiveQueue>
+    ensures { IfSome result (λ queue. 0 < length queue.value) }
+{
+    if site.pools().len() < 2 {
+        return None;
+    }
+    let mut queue = ArchiveQueue::new(alloc, site).ok()?;
+    queue.reserve(2).ok()?;
+    add_both(&mut queue);
+    Some(queue)
+}
+
+// The same, over the small site.
 fn filled(alloc: Global) -> Option<ArchiveQueue>
     ensures { IfSome result (λ queue. 0 < length queue.value) }
 {
     let site = valid_site(alloc).ok()?;
-    if site.pools().len() < 2 {
-        return None;
-    }
-    let mut queue = ArchiveQueue::new(alloc, &site).ok()?;
-    queue.reserve(2).ok()?;
-    add_both(&mut queue);
-    Some(queue)
+    let queue = filled_over(alloc, &site);
+    drop(site);
+    queue
 }
 
 // Two jobs stand in their order, with their sums.
 #[test]
 fn jobs_stand_in_order(rt: HostRuntime) -> Result<(), Fail> {
     let queue = filled(rt.alloc()).ok_or("no queue")?;
-    assert_eq!(rt; queue.front(0), Some(SOONER));
-    assert_eq!(rt; queue.after(0, SOONER), Some(LATER));
-    assert_eq!(rt; queue.after(0, LATER), None);
+    let order = [
+        queue.front(0),
+        queue.after(0, SOONER),
+        queue.after(0, LATER),
+    ];
+    assert_eq!(rt; order, [Some(SOONER), Some(LATER), None]);
     let sums = Sums {
         files: 2,
         bytes: 130,
@@ -71,10 +84,10 @@ fn jobs_stand_in_order(rt: HostRuntime) -> Result<(), Fail> {
 #[test]
 fn jobs_leave(rt: HostRuntime) -> Result<(), Fail> {
     let mut queue = filled(rt.alloc()).ok_or("no queue")?;
-    assert!(rt; queue.take(0, SOONER));
-    assert!(rt; !queue.take(0, SOONER));
+    let taken = [queue.take(0, SOONER), queue.take(0, SOONER)];
     assert_eq!(rt; queue.front(0), Some(LATER));
-    assert!(rt; queue.take(0, LATER));
+    let last = queue.take(0, LATER);
+    assert_eq!(rt; (taken, last), ([true, false], true));
     assert_eq!(rt; queue.sums(0), None);
     Ok(())
 }

@@ -19,10 +19,8 @@ fn content(alloc: Global, len: usize) -> Option<Arc<Blob>> {
 
 // Enters a file that is not there, where it fits.
 fn put(rt: &impl Abort, buffer: &mut DiskBuffer, file: u32, blob: Arc<Blob>) {
-    assert!(rt; buffer.room() > 0);
-    assert!(rt; !buffer.is_held(file));
-    let size = buffer.size();
-    let len = blob.sum().len;
+    assert!(rt; buffer.room() > 0 && !buffer.is_held(file));
+    let (size, len) = (buffer.size(), blob.sum().len);
     assert!(rt; len > 0 && len <= buffer.free() && buffer.free() <= size);
     buffer.enter(file, blob);
 }
@@ -46,9 +44,9 @@ fn hold(rt: &impl Abort, buffer: &mut DiskBuffer) {
     let size = buffer.size();
     assert!(rt; buffer.free() == 65 && buffer.free() <= size);
     buffer.hold(3);
-    assert_eq!(rt; buffer.free(), 62);
+    let held = buffer.free();
     buffer.unhold(3);
-    assert_eq!(rt; buffer.free(), 65);
+    assert_eq!(rt; [held, buffer.free()], [62, 65]);
 }
 
 // Evicts at a moment to get so many bytes, and says which files left.
@@ -61,9 +59,12 @@ fn evict(buffer: &mut DiskBuffer, alloc: Global, at: u64, need: u64) -> Option<R
 
 // What may go, before any pin ends and behind it.
 fn compare(rt: &impl Abort, buffer: &DiskBuffer, early: u64, late: u64) {
-    assert_eq!(rt; buffer.evictable(10), early);
-    assert_eq!(rt; buffer.evictable(50), late);
-    assert_eq!(rt; buffer.evictable(10), early);
+    let evictable = [
+        buffer.evictable(10),
+        buffer.evictable(50),
+        buffer.evictable(10),
+    ];
+    assert_eq!(rt; evictable, [early, late, early]);
 }
 
 // Flags and pins say what may go.
@@ -76,10 +77,18 @@ fn protect(rt: &impl Abort, buffer: &mut DiskBuffer) {
     pin(rt, buffer, 2, 50);
     pin(rt, buffer, 2, 40);
     compare(rt, buffer, 15, 35);
-    assert_eq!(rt; buffer.evict_count(10, 70), 1);
-    assert_eq!(rt; buffer.evict_count(10, 77), 2);
-    assert_eq!(rt; buffer.evict_count(50, 77), 2);
-    assert_eq!(rt; buffer.evict_count(50, 1000), 3);
+    count(rt, buffer);
+}
+
+// How many files go for a need, before the pins end and behind them.
+fn count(rt: &impl Abort, buffer: &DiskBuffer) {
+    let counts = [
+        buffer.evict_count(10, 70),
+        buffer.evict_count(10, 77),
+        buffer.evict_count(50, 77),
+        buffer.evict_count(50, 1000),
+    ];
+    assert_eq!(rt; counts, [1, 2, 2, 3]);
 }
 
 // Files leave.
@@ -87,10 +96,10 @@ fn leave(rt: &impl Abort, buffer: &mut DiskBuffer) {
     compare(rt, buffer, 0, 20);
     buffer.unpin(2, 7);
     compare(rt, buffer, 20, 20);
-    assert!(rt; buffer.blob(2).is_some());
+    let was_there = buffer.blob(2).is_some();
     pin(rt, buffer, 2, 50);
     buffer.remove(2);
-    assert!(rt; buffer.blob(2).is_none() && !buffer.is_held(2));
+    assert!(rt; was_there && buffer.blob(2).is_none() && !buffer.is_held(2));
     compare(rt, buffer, 0, 0);
     assert_eq!(rt; buffer.free(), 100);
 }
@@ -104,17 +113,20 @@ fn again(rt: &impl Abort, alloc: Global, buffer: &mut DiskBuffer) -> Option<()> 
 }
 
 // Each call once.
+fn play(rt: &impl Abort, alloc: Global, buffer: &mut DiskBuffer) -> Option<()> {
+    buffer.reserve(16).ok()?;
+    fill(rt, alloc, buffer)?;
+    hold(rt, buffer);
+    protect(rt, buffer);
+    let gone = evict(buffer, alloc, 10, 77)?;
+    assert_eq!(rt; gone.as_slice(), [1u32, 3].as_slice());
+    leave(rt, buffer);
+    again(rt, alloc, buffer)
+}
+
 #[test]
 fn files_come_and_go(rt: HostRuntime) -> Result<(), Fail> {
-    let alloc = rt.alloc();
-    let mut buffer = DiskBuffer::new(alloc, 100).ok().ok_or("no memory")?;
-    buffer.reserve(16).ok().ok_or("no memory")?;
-    fill(&rt, alloc, &mut buffer).ok_or("no memory")?;
-    hold(&rt, &mut buffer);
-    protect(&rt, &mut buffer);
-    let gone = evict(&mut buffer, alloc, 10, 77).ok_or("no memory")?;
-    assert_eq!(rt; gone.as_slice(), [1u32, 3].as_slice());
-    leave(&rt, &mut buffer);
-    again(&rt, alloc, &mut buffer).ok_or("no memory")?;
+    let mut buffer = DiskBuffer::new(rt.alloc(), 100).ok().ok_or("no memory")?;
+    play(&rt, rt.alloc(), &mut buffer).ok_or("no memory")?;
     Ok(())
 }

@@ -19,18 +19,22 @@ fn compare(rt: &impl Abort, index: &NameIndex, wanted: [Option<u32>; 3]) {
 }
 
 // Paths name files, other files, and none.
+fn play(rt: &impl Abort, alloc: Global, index: &mut NameIndex) -> Result<(), NoMemory> {
+    compare(rt, index, [None, None, None]);
+    add(index, alloc, "/a/b", 1)?;
+    add(index, alloc, "/a/bc", 2)?;
+    compare(rt, index, [Some(1), Some(2), None]);
+    add(index, alloc, "/a/b", 3)?;
+    compare(rt, index, [Some(3), Some(2), None]);
+    let removed = [index.remove(b"/a/b"), index.remove(b"/a")];
+    assert_eq!(rt; removed, [Some(3), None]);
+    compare(rt, index, [None, Some(2), None]);
+    Ok(())
+}
+
 #[test]
 fn paths_name_files(rt: HostRuntime) -> Result<(), Fail> {
-    let alloc = rt.alloc();
-    let mut index = NameIndex::new(alloc, RandomState::new(&rt)?);
-    compare(&rt, &index, [None, None, None]);
-    add(&mut index, alloc, "/a/b", 1)?;
-    add(&mut index, alloc, "/a/bc", 2)?;
-    compare(&rt, &index, [Some(1), Some(2), None]);
-    add(&mut index, alloc, "/a/b", 3)?;
-    compare(&rt, &index, [Some(3), Some(2), None]);
-    assert_eq!(rt; index.remove(b"/a/b"), Some(3));
-    assert_eq!(rt; index.remove(b"/a"), None);
-    compare(&rt, &index, [None, Some(2), None]);
+    let mut index = NameIndex::new(rt.alloc(), RandomState::new(&rt)?);
+    play(&rt, rt.alloc(), &mut index)?;
     Ok(())
 }

@@ -1,11 +1,19 @@
 use crate::site::valid_site;
 use cta_model::{Direction, Item, Job, Sum256};
-use cta_site::{NoMemory, Rows};
+use cta_site::{NoMemory, Rows, SiteError};
 use open_mounts::OpenMounts;
 use part_values::OpenMount;
 use std::alloc::Global;
 use std::process::Abort;
 use std::test::Fail;
+
+// No mount on the drives of the small site.
+fn no_mounts(alloc: Global) -> Result<OpenMounts, SiteError> {
+    let site = valid_site(alloc)?;
+    let mounts = OpenMounts::new(alloc, &site);
+    drop(site);
+    Ok(mounts?)
+}
 
 // One item of a batch.
 fn batch(alloc: Global) -> Result<Rows<Item>, NoMemory> {
@@ -16,8 +24,7 @@ fn batch(alloc: Global) -> Result<Rows<Item>, NoMemory> {
 
 // Opens a mount on a drive, where there is room and it is not open.
 fn open(rt: &impl Abort, mounts: &mut OpenMounts, number: u32, drive: u32, direction: Direction) {
-    assert!(rt; mounts.room() > 0);
-    assert!(rt; mounts.find(number).is_none());
+    assert!(rt; mounts.room() > 0 && mounts.find(number).is_none());
     mounts.open(OpenMount {
         number,
         drive,
@@ -30,12 +37,19 @@ fn open(rt: &impl Abort, mounts: &mut OpenMounts, number: u32, drive: u32, direc
 
 // How many mounts the key 3 has in each direction, and which drives have one.
 fn compare(rt: &impl Abort, mounts: &OpenMounts, counts: [usize; 2], busy: [bool; 2]) {
-    assert_eq!(rt; mounts.count(Direction::Archive, 3), counts[0]);
-    assert_eq!(rt; mounts.count(Direction::Retrieve, 3), counts[1]);
+    let counted = [
+        mounts.count(Direction::Archive, 3),
+        mounts.count(Direction::Retrieve, 3),
+    ];
+    assert_eq!(rt; counted, counts);
     assert_eq!(rt; mounts.count(Direction::Archive, 4), 0);
-    assert_eq!(rt; mounts.of_drive(0).is_some(), busy[0]);
-    assert_eq!(rt; mounts.of_drive(1).is_some(), busy[1]);
+    assert_eq!(rt; busy_drives(mounts), busy);
     assert_eq!(rt; mounts.of_tape(11).is_some(), busy[1]);
+}
+
+// Which drives have a mount.
+fn busy_drives(mounts: &OpenMounts) -> [bool; 2] {
+    [mounts.of_drive(0).is_some(), mounts.of_drive(1).is_some()]
 }
 
 // Whether a mount has claimed something.
@@ -46,26 +60,24 @@ fn has_claimed(mounts: &OpenMounts, mount: u32) -> Option<bool> {
 // A mount claims, and no other does.
 fn claim(rt: &impl Abort, mounts: &mut OpenMounts, items: Rows<Item>) {
     mounts.claim(8, items);
-    assert_eq!(rt; has_claimed(mounts, 5), Some(false));
-    assert_eq!(rt; has_claimed(mounts, 8), Some(true));
+    let claimed = [has_claimed(mounts, 5), has_claimed(mounts, 8)];
+    assert_eq!(rt; claimed, [Some(false), Some(true)]);
 }
 
 // A drive goes down and comes up.
 fn turn(rt: &impl Abort, mounts: &mut OpenMounts) {
     assert_eq!(rt; mounts.drives(), 2);
     mounts.set_down(1);
-    assert!(rt; mounts.is_down(1));
-    assert!(rt; !mounts.is_down(0));
+    assert!(rt; mounts.is_down(1) && !mounts.is_down(0));
     mounts.set_up(1);
     assert!(rt; !mounts.is_down(1));
 }
 
-// Two mounts open, and one ends.
-fn play(rt: &impl Abort, mounts: &mut OpenMounts) {
+// Two mounts open.
+fn begin(rt: &impl Abort, mounts: &mut OpenMounts) {
     open(rt, mounts, 5, 0, Direction::Archive);
     open(rt, mounts, 8, 1, Direction::Retrieve);
     compare(rt, mounts, [1, 1], [true, true]);
-    turn(rt, mounts);
 }
 
 // The first mount ends.
@@ -75,15 +87,20 @@ fn finish(rt: &impl Abort, mounts: &mut OpenMounts) {
     assert_eq!(rt; has_claimed(mounts, 5), None);
 }
 
+// Each call once.
+fn play(rt: &impl Abort, alloc: Global, mounts: &mut OpenMounts) -> Result<(), NoMemory> {
+    let items = batch(alloc)?;
+    mounts.reserve(2)?;
+    begin(rt, mounts);
+    turn(rt, mounts);
+    claim(rt, mounts, items);
+    finish(rt, mounts);
+    Ok(())
+}
+
 #[test]
 fn mounts_open_and_end(rt: HostRuntime) -> Result<(), Fail> {
-    let alloc = rt.alloc();
-    let items = batch(alloc)?;
-    let site = valid_site(alloc)?;
-    let mut mounts = OpenMounts::new(alloc, &site)?;
-    mounts.reserve(2)?;
-    play(&rt, &mut mounts);
-    claim(&rt, &mut mounts, items);
-    finish(&rt, &mut mounts);
+    let mut mounts = no_mounts(rt.alloc())?;
+    play(&rt, rt.alloc(), &mut mounts)?;
     Ok(())
 }

@@ -1,7 +1,8 @@
 // Trees of numbers, each with its largest.
-ghost use Rattle.std.specs.Prelude.{◌≡◌, ◌<◌, length};
+ghost use Rattle.std.specs.Prelude.{◌≡◌, ◌<◌, IfOk, length};
 
 use cta_site::NoMemory;
+use std::alloc::Global;
 use std::test::Fail;
 use sum_trees::{Forest, Sought, Summed};
 
@@ -91,32 +92,47 @@ fn run_from(forest: &Forest<Number>, tree: u32, first: u32) -> u32
     at
 }
 
+// The numbers 0 to 9 in the second of two trees.
+fn two_trees(alloc: Global) -> Result<Forest<Number>, NoMemory>
+    ensures { IfOk result (λ forest. length forest.trees ≡ 2) }
+{
+    let mut forest = Forest::new(alloc, 2)?;
+    ten(&mut forest)?;
+    Ok(forest)
+}
+
 // Ten numbers stand in their order, and two trees keep to themselves.
 #[test]
 fn numbers_stand_in_order(rt: HostRuntime) -> Result<(), Fail> {
-    let mut forest = Forest::new(rt.alloc(), 2).ok().ok_or("no memory")?;
-    ten(&mut forest).ok().ok_or("no memory")?;
-    assert_eq!(rt; forest.first(0), None);
-    assert_eq!(rt; forest.sum(0), None);
-    assert_eq!(rt; forest.first(1), Some(Number(0)));
-    assert_eq!(rt; forest.sum(1), Some(9));
+    let forest = two_trees(rt.alloc()).ok().ok_or("no memory")?;
+    assert_eq!(rt; [forest.first(0), forest.first(1)], [None, Some(Number(0))]);
+    assert_eq!(rt; [forest.sum(0), forest.sum(1)], [None, Some(9)]);
     assert_eq!(rt; run_from(&forest, 1, 0), 9);
     Ok(())
+}
+
+// What stands from 4 and from 5 on, and behind 5 and 9.
+fn later(forest: &Forest<Number>) -> [Option<Number>; 4]
+    requires { 1 < length forest.now.trees }
+{
+    [
+        forest.from(1, Number(4)),
+        forest.from(1, Number(5)),
+        forest.after(1, Number(5)),
+        forest.after(1, Number(9)),
+    ]
 }
 
 // A number that was taken is passed over, and is not taken twice.
 #[test]
 fn numbers_leave(rt: HostRuntime) -> Result<(), Fail> {
-    let mut forest = Forest::new(rt.alloc(), 2).ok().ok_or("no memory")?;
-    ten(&mut forest).ok().ok_or("no memory")?;
-    assert!(rt; forest.take(1, Number(4)));
-    assert!(rt; !forest.take(1, Number(4)));
+    let mut forest = two_trees(rt.alloc()).ok().ok_or("no memory")?;
+    let taken = [forest.take(1, Number(4)), forest.take(1, Number(4))];
+    assert_eq!(rt; taken, [true, false]);
     assert!(rt; forest.room() > 0);
     assert_eq!(rt; run_from(&forest, 1, 0), 3);
-    assert_eq!(rt; forest.from(1, Number(4)), Some(Number(5)));
-    assert_eq!(rt; forest.from(1, Number(5)), Some(Number(5)));
-    assert_eq!(rt; forest.after(1, Number(5)), Some(Number(6)));
-    assert_eq!(rt; forest.after(1, Number(9)), None);
+    let want = [Some(Number(5)), Some(Number(5)), Some(Number(6)), None];
+    assert_eq!(rt; later(&forest), want);
     Ok(())
 }
 
@@ -131,19 +147,37 @@ fn again(forest: &mut Forest<Number>, tree: u32, number: u32)
     }
 }
 
+// Two numbers by themselves, and two by the least sum that they pass, first in their tree and then behind a number.
+fn sought(forest: &Forest<Number>) -> [Option<Number>; 6]
+    requires { 1 < length forest.now.trees }
+{
+    [
+        forest.get(1, Number(6)),
+        forest.get(1, Number(10)),
+        forest.first_passing(1, 7),
+        forest.first_passing(1, 10),
+        forest.next_passing(1, Number(7), 3),
+        forest.next_passing(1, Number(9), 3),
+    ]
+}
+
+// The sums of a range, and of one that ends before it begins.
+fn between(forest: &Forest<Number>) -> [Option<u32>; 2]
+    requires { 1 < length forest.now.trees }
+{
+    [
+        forest.sum_between(1, Number(2), Number(7)),
+        forest.sum_between(1, Number(7), Number(2)),
+    ]
+}
+
 // A number is found again, and by what its tree's sums say, and a range is summed.
 #[test]
 fn numbers_are_sought(rt: HostRuntime) -> Result<(), Fail> {
-    let mut forest = Forest::new(rt.alloc(), 2).ok().ok_or("no memory")?;
-    ten(&mut forest).ok().ok_or("no memory")?;
-    assert_eq!(rt; forest.get(1, Number(6)), Some(Number(6)));
-    assert_eq!(rt; forest.get(1, Number(10)), None);
-    assert_eq!(rt; forest.first_passing(1, 7), Some(Number(7)));
-    assert_eq!(rt; forest.first_passing(1, 10), None);
-    assert_eq!(rt; forest.next_passing(1, Number(7), 3), Some(Number(8)));
-    assert_eq!(rt; forest.next_passing(1, Number(9), 3), None);
-    assert_eq!(rt; forest.sum_between(1, Number(2), Number(7)), Some(6));
-    assert_eq!(rt; forest.sum_between(1, Number(7), Number(2)), None);
+    let mut forest = two_trees(rt.alloc()).ok().ok_or("no memory")?;
+    let (six, seven, eight) = (Some(Number(6)), Some(Number(7)), Some(Number(8)));
+    assert_eq!(rt; sought(&forest), [six, None, seven, None, eight, None]);
+    assert_eq!(rt; between(&forest), [Some(6), None]);
     again(&mut forest, 1, 6);
     assert_eq!(rt; run_from(&forest, 1, 0), 9);
     Ok(())

@@ -2,10 +2,19 @@ ghost use Rattle.std.specs.Prelude.{◌≡◌};
 
 use crate::site::valid_site;
 use cta_model::{Fate, Item, Job, Sum256};
-use cta_site::TapeState;
+use cta_site::{NoMemory, SiteError, TapeState};
+use std::alloc::Global;
 use std::process::Abort;
 use std::test::Fail;
 use tape_files::TapeFiles;
+
+// The tapes of the small site, with no file.
+fn no_files(alloc: Global) -> Result<TapeFiles, SiteError> {
+    let site = valid_site(alloc)?;
+    let files = TapeFiles::new(alloc, &site);
+    drop(site);
+    Ok(files?)
+}
 
 // An item for a copy of the file 7.
 fn item(copy: u8) -> Item
@@ -27,10 +36,8 @@ fn item(copy: u8) -> Item
 
 // Flushes a copy of the file 7 to a tape.
 fn flush(rt: &impl Abort, table: &mut TapeFiles, tape: u32, copy: u8, fate: Fate, fseq: u32) {
-    assert!(rt; (tape as usize) < table.tapes());
-    assert!(rt; table.room() > 0);
-    assert_eq!(rt; table.row(tape).next, fseq);
-    assert!(rt; fseq < 9);
+    assert!(rt; (tape as usize) < table.tapes() && table.room() > 0);
+    assert!(rt; table.row(tape).next == fseq && fseq < 9);
     assert!(rt; copy > 0 && copy < 5);
     assert_eq!(rt; table.flushed(tape, item(copy), fate), fseq);
 }
@@ -57,15 +64,15 @@ fn set(rt: &impl Abort, table: &mut TapeFiles, tape: u32, state: TapeState) {
 
 // Bytes are claimed and given up, and the tape is written anew.
 fn claim(rt: &impl Abort, table: &mut TapeFiles) {
-    assert!(rt; table.tapes() == 2);
-    assert_eq!(rt; table.row(0).used, 0);
+    assert!(rt; table.tapes() == 2 && table.row(0).used == 0);
     table.claim(0, 9);
     table.unclaim(0, 4);
-    assert_eq!(rt; table.row(0).used, 5);
+    let claimed = table.row(0).used;
     assert_eq!(rt; table.live(0), 0);
     table.reclaim(0);
-    assert_eq!(rt; table.row(0).used, 0);
-    assert_eq!(rt; table.row(0).next, 1);
+    let row = table.row(0);
+    assert_eq!(rt; [claimed, row.used], [5, 0]);
+    assert_eq!(rt; row.next, 1);
 }
 
 // Three copies, of which the third is flushed late at first, and then twice.
@@ -79,9 +86,8 @@ fn fill(rt: &impl Abort, table: &mut TapeFiles) {
 
 // The third copy moves away from the first tape.
 fn walk_all(rt: &impl Abort, table: &mut TapeFiles) {
-    assert_eq!(rt; walk(table, 0), Some((1, 1)));
-    assert_eq!(rt; walk(table, 2), Some((3, 3)));
-    assert_eq!(rt; walk(table, 4), None);
+    let walked = [walk(table, 0), walk(table, 2), walk(table, 4)];
+    assert_eq!(rt; walked, [Some((1, 1)), Some((3, 3)), None]);
     compare(rt, table, Some(0), 2);
     flush(rt, table, 1, 3, Fate::Done, 2);
     compare(rt, table, Some(0), 1);
@@ -93,19 +99,24 @@ fn read_all(rt: &impl Abort, table: &mut TapeFiles) {
     compare(rt, table, Some(1), 1);
     set(rt, table, 1, TapeState::Broken);
     compare(rt, table, Some(0), 1);
-    assert!(rt; table.is_whole(7, 1));
-    assert!(rt; !table.is_whole(7, 2));
+    assert!(rt; table.is_whole(7, 1) && !table.is_whole(7, 2));
+}
+
+// Each call once.
+fn play(rt: &impl Abort, table: &mut TapeFiles) -> Result<(), NoMemory> {
+    table.reserve(4)?;
+    fill(rt, table);
+    walk_all(rt, table);
+    read_all(rt, table);
+    table.drop_file(7);
+    compare(rt, table, None, 0);
+    claim(rt, table);
+    Ok(())
 }
 
 #[test]
 fn places_come_and_go(rt: HostRuntime) -> Result<(), Fail> {
-    let mut table = TapeFiles::new(rt.alloc(), &valid_site(rt.alloc())?)?;
-    table.reserve(4)?;
-    fill(&rt, &mut table);
-    walk_all(&rt, &mut table);
-    read_all(&rt, &mut table);
-    table.drop_file(7);
-    compare(&rt, &table, None, 0);
-    claim(&rt, &mut table);
+    let mut table = no_files(rt.alloc())?;
+    play(&rt, &mut table)?;
     Ok(())
 }
