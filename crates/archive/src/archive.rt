@@ -53,7 +53,9 @@ impl<M: Told + Drop> Archive<M> {
 
     /// Lets the archive go, with its media. Whoever owns an archive calls it in place of letting it go out of scope: that all of it is
     /// dropped is then proved here once, and not in each function where that may be. Its cost is the size of the archive.
-    pub fn let_go(self) {}
+    pub fn let_go(self) {
+        drop(self);
+    }
 
     /// That the history is legal for the site: a law, which does nothing when it runs.
     pub fn keeps_history(&self)

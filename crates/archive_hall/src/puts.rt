@@ -13,5 +13,7 @@ impl<M: Told + Drop> Serves for Archive<M> {
         ArchiveCall::Ask { at: 0, ask, hand }
     }
 
-    fn let_go(_back: ArchiveBack<M>) {}
+    fn let_go(back: ArchiveBack<M>) {
+        drop(back);
+    }
 }

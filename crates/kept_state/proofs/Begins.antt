@@ -1,6 +1,6 @@
 -- The state at the start.
 use Rattle.std.proofs.Common.{◌≡◌, ◌∙◌, ℕ, zero, suc, ◌<◌, [], ◌∷◌, List, refl, sym, ap, subst, arith, length}
-use Rattle.std.specs.Prelude.{Option, Some, IfSome, false, map, slice_get}
+use Rattle.std.specs.Prelude.{Option, Some, IfSome, IfOk, Result, Ok, false, map, slice_get}
 use Rattle.std.proofs.lemmas.List.{length-map}
 use Rattle.blob.specs.Records.{TapeRecords}
 use Rattle.cta_site.specs.declared.site.Site.{Site}
@@ -25,3 +25,7 @@ state_begins told site p media shelf first kept is = record {
   shelf = shelf_starts_full site (medium_at shelf) (λ v low. subst (λ (s : List (Option (Option TapeRecords))). IsPlaceOf [] v false (medium_at s v)) (sym is) (first_place told media v v (subst (λ (n : ℕ). v < n) (sym first.count) low) (first.each v)));
   places = ap length is ∙ length-map media (λ m. Some (told m)) ∙ first.count;
 }
+
+-- what a call ensures of the value that it gives holds of the one that its result was found to have
+pub ok_holds : {T E : Type 0} (P : T → Type 0) {r : Result T E} {v : T} → r ≡ Ok v → IfOk r P → P v
+ok_holds P e h = subst (λ r. IfOk r P) e h

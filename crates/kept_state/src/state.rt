@@ -1,5 +1,5 @@
 // The state.
-ghost use Rattle.std.specs.Prelude.{◌≡◌, [], IfOk};
+ghost use Rattle.std.specs.Prelude.{◌≡◌, [], IfOk, Ok};
 ghost use Rattle.cta_model.specs.History.{moment_of, weight_of};
 ghost use Rattle.cta_model.specs.Legal.{IsLegal};
 ghost use Rattle.kept_state.specs.Kept.{AreFirstMedia, TapesHaveMedia};
@@ -37,6 +37,18 @@ impl<M: Told + Drop> Model for KeptState<M> {
     ghost invariant = { λ s. IsState s.site s.history.value s.parts s.shelf };
 }
 
+// Three values, where there was memory for all of them. That the others are dropped where one is missing is proved here for any values,
+// and not in a function that knows all of their fields.
+fn all_of<A: Drop, B: Drop, C: Drop>(
+    first: Result<A, NoMemory>,
+    second: Result<B, NoMemory>,
+    third: Result<C, NoMemory>,
+) -> Result<(A, B, C), NoMemory>
+    ensures { IfOk result (λ all. (first ≡ Ok all.0) × (second ≡ Ok all.1) × (third ≡ Ok all.2)) }
+{
+    Ok((first?, second?, third?))
+}
+
 impl<M: Told + Drop> KeptState<M> {
     /// The state of an archive with no history, with a medium for each tape of the site. Paths are hashed with these keys. After
     /// NoMemory the site and the media are dropped. Its cost is the size of the site, and that of `KeyedSite::new`.
@@ -49,9 +61,10 @@ impl<M: Told + Drop> KeptState<M> {
         requires { AreFirstMedia M.told site media.items }
         ensures { IfOk result (λ state. state ≡ record { site = site; history = [] }) }
     {
-        let shelf = MediaShelf::new(alloc, media)?;
-        let parts = KeptParts::new(alloc, &site, keys)?;
-        let site = KeyedSite::new(alloc, site)?;
+        let parts = KeptParts::new(alloc, &site, keys);
+        let shelf = MediaShelf::new(alloc, media);
+        let site = KeyedSite::new(alloc, site);
+        let (site, shelf, parts) = all_of(site, shelf, parts)?;
         Ok(KeptState {
             alloc,
             site,
