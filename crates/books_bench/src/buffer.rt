@@ -1,5 +1,5 @@
 // The disk buffer.
-use crate::report::{Report, file_at, tell};
+use crate::report::{Report, file_at, lacks_memory, tell, tell_filled};
 use blob::Blob;
 use cta_site::{NoMemory, Rows};
 use disk_buffer::DiskBuffer;
@@ -55,8 +55,8 @@ fn content(alloc: Global) -> Result<Arc<Blob>, NoMemory> {
 }
 
 fn start(alloc: Global) -> Result<Shared, NoMemory> {
-    let buffer = DiskBuffer::new(alloc, SIZE)?;
     let blob = content(alloc)?;
+    let buffer = DiskBuffer::new(alloc, SIZE)?;
     let out = Rows::of(Vec::new(alloc));
     Ok(Shared { buffer, blob, out })
 }
@@ -183,27 +183,34 @@ fn row(shared: &mut Shared, report: Report, at: usize) -> u32 {
     0
 }
 
-// Prints the lines of the buffer.
-pub fn run(rt: &HostRuntime, report: Report) -> io::Result<()> {
-    let Ok(mut shared) = start(rt.alloc()) else {
-        return Ok(());
-    };
+fn run_lines(rt: &HostRuntime, report: Report, shared: &mut Shared) -> io::Result<()> {
     for at in 0..15 {
         let start = Instant::now(rt)?;
-        let calls = row(&mut shared, report, at);
+        let calls = row(shared, report, at);
         tell(rt, report, CALLS[at], start, calls)?;
     }
     Ok(())
 }
 
-// Fills the buffer, with room for all at once.
-pub fn fill(rt: &HostRuntime, files: u32) -> Option<u32> {
-    let mut shared = start(rt.alloc()).ok()?;
-    shared.buffer.reserve(files).ok()?;
-    let report = Report {
-        timed: false,
-        thrown: false,
-        files,
-    };
-    Some(call_all(&mut shared, report, 0))
+// Enters the files, with room for all at once.
+fn fill(shared: &mut Shared, report: Report) -> Option<u32> {
+    if shared.buffer.reserve(report.files).is_err() {
+        return None;
+    }
+    Some(call_all(shared, report, 0))
+}
+
+fn run_over(rt: &HostRuntime, report: Report, shared: &mut Shared) -> io::Result<()> {
+    if report.fills {
+        return tell_filled(rt, fill(shared, report));
+    }
+    run_lines(rt, report, shared)
+}
+
+// Prints the lines of the buffer, or fills it.
+pub fn run(rt: &HostRuntime, report: Report) -> io::Result<()> {
+    match start(rt.alloc()) {
+        Ok(mut shared) => run_over(rt, report, &mut shared),
+        Err(_) => lacks_memory(rt),
+    }
 }

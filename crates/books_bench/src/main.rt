@@ -23,37 +23,29 @@ fn run_all(rt: &HostRuntime, report: Report) -> io::Result<()> {
     repacks::run(rt, report)
 }
 
-// Fills one part.
-fn fill(rt: &HostRuntime, part: Kind, files: u32) -> Option<u32> {
-    match part {
-        Kind::Buffer => buffer::fill(rt, files),
-        Kind::Stages => stages::fill(rt, files),
-        _ => repacks::fill(rt, files),
+// How lines are printed, or that a part is to be filled.
+fn report_of(load: Load) -> Report {
+    let (timed, thrown, fills) = match load.kind {
+        Kind::Time => (true, false, false),
+        Kind::Thrown => (true, true, false),
+        Kind::Count => (false, true, false),
+        _ => (false, false, true),
+    };
+    Report {
+        timed,
+        thrown,
+        fills,
+        files: load.files,
     }
 }
 
-// How lines are printed, None where one part is to be filled.
-fn report_of(load: Load) -> Option<Report> {
-    let (timed, thrown) = match load.kind {
-        Kind::Time => (true, false),
-        Kind::Thrown => (true, true),
-        Kind::Count => (false, true),
-        _ => return None,
-    };
-    Some(Report {
-        timed,
-        thrown,
-        files: load.files,
-    })
-}
-
 fn run(rt: &HostRuntime, load: Load) -> io::Result<()> {
-    match report_of(load) {
-        Some(report) => run_all(rt, report),
-        None => match fill(rt, load.kind, load.files) {
-            Some(count) => println!(rt; "{count}"),
-            None => eprintln!(rt; "books_bench: no memory"),
-        },
+    let report = report_of(load);
+    match load.kind {
+        Kind::Buffer => buffer::run(rt, report),
+        Kind::Stages => stages::run(rt, report),
+        Kind::Repacks => repacks::run(rt, report),
+        _ => run_all(rt, report),
     }
 }
 

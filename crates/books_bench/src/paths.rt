@@ -8,10 +8,10 @@ pub fn path_of(alloc: Global, file: u32) -> Result<Text, NoMemory> {
     Ok(Text::of(path))
 }
 
-// The paths of so many files.
-pub fn paths_of(alloc: Global, files: u32) -> Result<Vec<Text>, NoMemory> {
+// The paths of the files of a range.
+pub fn paths_of(alloc: Global, first: u32, end: u32) -> Result<Vec<Text>, NoMemory> {
     let mut paths = Vec::new(alloc);
-    for file in 0..files {
+    for file in first..end {
         paths.push(path_of(alloc, file)?)?;
     }
     Ok(paths)

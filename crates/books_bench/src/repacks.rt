@@ -1,6 +1,6 @@
 // The book of repacks.
-use crate::paths::{count_of, path_of};
-use crate::report::{Report, file_at, tell};
+use crate::paths::{count_of, path_of, paths_of};
+use crate::report::{Report, file_at, lacks_memory, tell, tell_filled};
 use cta_model::{ItemState, Job};
 use cta_site::{NoMemory, Rows, Text};
 use repack_book::RepackBook;
@@ -52,22 +52,29 @@ struct Repacks {
     each: u32,
 }
 
-// The repack of a number, of the `each` files of its place, as many as there are.
-fn coming_of(alloc: Global, id: u32, each: u32, files: u32) -> Result<Coming, NoMemory> {
-    let first = id.saturating_mul(each);
+// The items of the files of a range.
+fn items_of(alloc: Global, first: u32, end: u32) -> Result<Vec<Job>, NoMemory> {
     let mut items = Vec::new(alloc);
-    let mut paths = Vec::new(alloc);
-    for file in first..first.saturating_add(each).min(files) {
+    for file in first..end {
         items.push(Job {
             birth: file,
             file,
             copy: 1,
         })?;
-        paths.push(path_of(alloc, file)?)?;
     }
+    Ok(items)
+}
+
+// The repack of a number, of the `each` files of its place, as many as there are.
+fn coming_of(alloc: Global, id: u32, each: u32, files: u32) -> Result<Coming, NoMemory> {
+    let first = id.saturating_mul(each);
+    let end = first.saturating_add(each).min(files);
+    let items = items_of(alloc, first, end)?;
+    let vid = path_of(alloc, id)?;
+    let paths = paths_of(alloc, first, end)?;
     Ok(Coming {
         id,
-        vid: path_of(alloc, id)?,
+        vid,
         items: Rows::of(items),
         paths: Rows::of(paths),
     })
@@ -84,8 +91,8 @@ fn all_coming(alloc: Global, each: u32, files: u32) -> Result<Vec<Coming>, NoMem
 
 fn start(alloc: Global, each: u32, files: u32) -> Result<Repacks, NoMemory> {
     Ok(Repacks {
-        book: RepackBook::new(alloc)?,
         coming: all_coming(alloc, each, files)?,
+        book: RepackBook::new(alloc)?,
         each: each.max(1),
     })
 }
@@ -176,16 +183,12 @@ impl Repacks {
     }
 }
 
-// Prints lines of repacks of so many items each.
 fn run_lines(
     rt: &HostRuntime,
     report: Report,
-    each: u32,
+    repacks: &mut Repacks,
     lines: &[(usize, &str)],
 ) -> io::Result<()> {
-    let Ok(mut repacks) = start(rt.alloc(), each, report.files) else {
-        return Ok(());
-    };
     for (at, name) in lines {
         let start = Instant::now(rt)?;
         let calls = repacks.row(report, *at);
@@ -194,14 +197,36 @@ fn run_lines(
     Ok(())
 }
 
-// Prints the lines of the book.
-pub fn run(rt: &HostRuntime, report: Report) -> io::Result<()> {
-    run_lines(rt, report, 100, HUNDREDS.as_slice())?;
-    run_lines(rt, report, report.files, WHOLE.as_slice())
+fn run_over(
+    rt: &HostRuntime,
+    report: Report,
+    repacks: &mut Repacks,
+    lines: &[(usize, &str)],
+) -> io::Result<()> {
+    if report.fills {
+        return tell_filled(rt, Some(repacks.row(report, 0)));
+    }
+    run_lines(rt, report, repacks, lines)
 }
 
-// Fills the book with repacks of a hundred items.
-pub fn fill(rt: &HostRuntime, files: u32) -> Option<u32> {
-    let mut repacks = start(rt.alloc(), 100, files).ok()?;
-    Some(add_all(&mut repacks.book, &mut repacks.coming))
+// Prints lines of repacks of so many items each, or fills the book with them.
+fn run_each(
+    rt: &HostRuntime,
+    report: Report,
+    each: u32,
+    lines: &[(usize, &str)],
+) -> io::Result<()> {
+    match start(rt.alloc(), each, report.files) {
+        Ok(mut repacks) => run_over(rt, report, &mut repacks, lines),
+        Err(_) => lacks_memory(rt),
+    }
+}
+
+// Prints the lines of the book, or fills it.
+pub fn run(rt: &HostRuntime, report: Report) -> io::Result<()> {
+    run_each(rt, report, 100, HUNDREDS.as_slice())?;
+    if report.fills {
+        return Ok(());
+    }
+    run_each(rt, report, report.files, WHOLE.as_slice())
 }

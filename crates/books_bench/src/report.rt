@@ -3,11 +3,12 @@ use std::io;
 use std::time::Instant;
 
 // Whether times are printed or numbers of calls, whether files come in an order that looks thrown or in that of their numbers,
-// and how many there are.
+// whether a part is only filled, and how many files there are.
 #[derive(Clone, Copy)]
 pub struct Report {
     pub timed: bool,
     pub thrown: bool,
+    pub fills: bool,
     pub files: u32,
 }
 
@@ -28,7 +29,7 @@ fn mean(nanos: u128, calls: u32) -> u128 {
     nanos / u128::from(calls)
 }
 
-// Prints the line of a call that was made so many times since the moment.
+// Prints the line of a call that was made so many times since the moment: their mean, or their number.
 pub fn tell(
     rt: &HostRuntime,
     report: Report,
@@ -36,9 +37,22 @@ pub fn tell(
     start: Instant,
     calls: u32,
 ) -> io::Result<()> {
-    if !report.timed {
-        return println!(rt; "{name} {calls}");
+    let figure = if report.timed {
+        mean(start.elapsed(rt)?.as_nanos(), calls)
+    } else {
+        u128::from(calls)
+    };
+    println!(rt; "{name} {figure}")
+}
+
+pub fn lacks_memory(rt: &HostRuntime) -> io::Result<()> {
+    eprintln!(rt; "books_bench: no memory")
+}
+
+// Prints how many files a part took that was filled.
+pub fn tell_filled(rt: &HostRuntime, taken: Option<u32>) -> io::Result<()> {
+    match taken {
+        Some(count) => println!(rt; "{count}"),
+        None => lacks_memory(rt),
     }
-    let nanos = mean(start.elapsed(rt)?.as_nanos(), calls);
-    println!(rt; "{name} {nanos}")
 }

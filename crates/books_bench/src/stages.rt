@@ -1,7 +1,7 @@
 // The book of stage requests.
 use crate::batch::{Batch, batches};
 use crate::paths::{count_of, paths_of};
-use crate::report::{Report, file_at, tell};
+use crate::report::{Report, file_at, lacks_memory, tell, tell_filled};
 use cta_site::{NoMemory, Text};
 use part_values::FileEnd;
 use stage_book::StageBook;
@@ -48,12 +48,16 @@ struct Stages {
     paths: Vec<Text>,
 }
 
-fn start(alloc: Global, keys: RandomState, each: u32, files: u32) -> Result<Stages, NoMemory> {
+// The book that is only filled is asked for no path.
+fn start(alloc: Global, keys: RandomState, each: u32, report: Report) -> Result<Stages, NoMemory> {
+    let coming = batches(alloc, each.max(1), report.files)?;
+    let asked = if report.fills { 0 } else { report.files };
+    let paths = paths_of(alloc, 0, asked)?;
     Ok(Stages {
         book: StageBook::new(alloc, keys),
-        coming: batches(alloc, each.max(1), files)?,
+        coming,
         each: each.max(1),
-        paths: paths_of(alloc, files)?,
+        paths,
     })
 }
 
@@ -89,21 +93,15 @@ fn reads_place(book: &StageBook, id: u32, place: usize, at: usize) -> bool {
 }
 
 // One call for a path of a request.
-fn has(book: &StageBook, id: u32, path: Option<&Text>) -> bool {
-    match path {
-        Some(path) => book.has(id, path.as_bytes()),
-        None => false,
+fn call_path(book: &mut StageBook, id: u32, path: Option<&Text>, at: usize) -> bool {
+    let Some(path) = path else {
+        return false;
+    };
+    if at == 2 {
+        return book.has(id, path.as_bytes());
     }
-}
-
-fn release(book: &mut StageBook, id: u32, path: Option<&Text>) -> bool {
-    match path {
-        Some(path) => {
-            book.release(id, path.as_bytes());
-            true
-        }
-        None => false,
-    }
+    book.release(id, path.as_bytes());
+    true
 }
 
 // One call for one file of a request.
@@ -123,9 +121,8 @@ impl Stages {
         let each = self.each.max(1);
         let id = file / each;
         match at {
-            2 => has(&self.book, id, self.paths.get(file as usize)),
+            2 | 10 => call_path(&mut self.book, id, self.paths.get(file as usize), at),
             3 | 4 | 5 | 6 => reads_place(&self.book, id, (file % each) as usize, at),
-            10 => release(&mut self.book, id, self.paths.get(file as usize)),
             _ => call(&mut self.book, id, file, at),
         }
     }
@@ -170,16 +167,12 @@ impl Stages {
     }
 }
 
-// Prints lines of requests of so many files each.
 fn run_lines(
     rt: &HostRuntime,
     report: Report,
-    each: u32,
+    stages: &mut Stages,
     lines: &[(usize, &str)],
 ) -> io::Result<()> {
-    let Ok(mut stages) = start(rt.alloc(), RandomState::new(rt)?, each, report.files) else {
-        return Ok(());
-    };
     for (at, name) in lines {
         let start = Instant::now(rt)?;
         let calls = stages.row(report, *at);
@@ -188,16 +181,37 @@ fn run_lines(
     Ok(())
 }
 
-// Prints the lines of the book.
-pub fn run(rt: &HostRuntime, report: Report) -> io::Result<()> {
-    run_lines(rt, report, 10, TENS.as_slice())?;
-    run_lines(rt, report, report.files, WHOLE.as_slice())
+fn run_over(
+    rt: &HostRuntime,
+    report: Report,
+    stages: &mut Stages,
+    lines: &[(usize, &str)],
+) -> io::Result<()> {
+    if report.fills {
+        return tell_filled(rt, Some(stages.row(report, 0)));
+    }
+    run_lines(rt, report, stages, lines)
 }
 
-// Fills the book with requests of ten files.
-pub fn fill(rt: &HostRuntime, files: u32) -> Option<u32> {
-    let keys = RandomState::new(rt).ok()?;
-    let mut book = StageBook::new(rt.alloc(), keys);
-    let mut coming = batches(rt.alloc(), 10, files).ok()?;
-    Some(add_all(&mut book, &mut coming))
+// Prints lines of requests of so many files each, or fills the book with them.
+fn run_each(
+    rt: &HostRuntime,
+    report: Report,
+    each: u32,
+    lines: &[(usize, &str)],
+) -> io::Result<()> {
+    let keys = RandomState::new(rt)?;
+    match start(rt.alloc(), keys, each, report) {
+        Ok(mut stages) => run_over(rt, report, &mut stages, lines),
+        Err(_) => lacks_memory(rt),
+    }
+}
+
+// Prints the lines of the book, or fills it.
+pub fn run(rt: &HostRuntime, report: Report) -> io::Result<()> {
+    run_each(rt, report, 10, TENS.as_slice())?;
+    if report.fills {
+        return Ok(());
+    }
+    run_each(rt, report, report.files, WHOLE.as_slice())
 }

@@ -2,6 +2,7 @@
 use crate::report::{Report, tell};
 use cta_model::{Fault, Job};
 use job_book::JobBook;
+use std::alloc::Global;
 use std::io;
 use std::time::Instant;
 
@@ -148,20 +149,31 @@ fn row(book: &mut JobBook, files: u32, at: usize) -> u32 {
     read_all(book, files, at)
 }
 
-// Prints the lines of the book.
-pub fn run(rt: &HostRuntime, report: Report) -> io::Result<()> {
-    let mut book = JobBook::new(rt.alloc());
+fn run_lines(rt: &HostRuntime, report: Report, book: &mut JobBook) -> io::Result<()> {
     for at in 0..18 {
         let start = Instant::now(rt)?;
-        let calls = row(&mut book, report.files, at);
+        let calls = row(book, report.files, at);
         tell(rt, report, CALLS[at], start, calls)?;
     }
     Ok(())
 }
 
-// Fills the book, with room for all at once.
-pub fn fill(rt: &HostRuntime, files: u32) -> Option<u32> {
+// Prints the lines of the book.
+pub fn run(rt: &HostRuntime, report: Report) -> io::Result<()> {
     let mut book = JobBook::new(rt.alloc());
-    book.reserve(files).ok()?;
-    Some(change_all(&mut book, files, 0))
+    run_lines(rt, report, &mut book)
+}
+
+// Adds so many archive jobs, with room for all at once.
+fn fill_all(book: &mut JobBook, files: u32) -> Option<u32> {
+    if book.reserve(files).is_err() {
+        return None;
+    }
+    Some(change_all(book, files, 0))
+}
+
+// Fills the book.
+pub fn fill(alloc: Global, files: u32) -> Option<u32> {
+    let mut book = JobBook::new(alloc);
+    fill_all(&mut book, files)
 }

@@ -49,20 +49,23 @@ fn choose(list: &[Candidate], files: u32) -> u32 {
     }
 }
 
+fn run_choice(rt: &HostRuntime, report: Report, list: &[Candidate]) -> io::Result<()> {
+    let start = Instant::now(rt)?;
+    let calls = choose(list, report.files);
+    tell(rt, report, "mount_choice.first_of/candidates", start, calls)
+}
+
+fn run_order(rt: &HostRuntime, report: Report, batch: &mut [Item]) -> io::Result<()> {
+    let start = Instant::now(rt)?;
+    sort_batch(batch);
+    let calls = report.files;
+    tell(rt, report, "recall_order.sort_batch/items", start, calls)
+}
+
 // Prints the lines of both.
 pub fn run(rt: &HostRuntime, report: Report) -> io::Result<()> {
     let list = candidates(rt.alloc(), report.files)?;
     let mut batch = items(rt.alloc(), report.files)?;
-    let start = Instant::now(rt)?;
-    let calls = choose(list.as_slice(), report.files);
-    tell(rt, report, "mount_choice.first_of/candidates", start, calls)?;
-    let start = Instant::now(rt)?;
-    sort_batch(batch.as_mut_slice());
-    tell(
-        rt,
-        report,
-        "recall_order.sort_batch/items",
-        start,
-        report.files,
-    )
+    run_choice(rt, report, list.as_slice())?;
+    run_order(rt, report, batch.as_mut_slice())
 }

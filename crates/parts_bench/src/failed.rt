@@ -2,6 +2,7 @@
 use crate::report::{Report, tell};
 use cta_model::Job;
 use failed_copies::FailedCopies;
+use std::alloc::Global;
 use std::io;
 use std::time::Instant;
 
@@ -67,22 +68,35 @@ fn row(copies: &mut FailedCopies, files: u32, at: usize) -> u32 {
     files
 }
 
-// Prints the lines of the failed copies.
-pub fn run(rt: &HostRuntime, report: Report) -> io::Result<()> {
-    let Ok(mut copies) = FailedCopies::new(rt.alloc()) else {
-        return Ok(());
-    };
+fn run_lines(rt: &HostRuntime, report: Report, copies: &mut FailedCopies) -> io::Result<()> {
     for at in 0..6 {
         let start = Instant::now(rt)?;
-        let calls = row(&mut copies, report.files, at);
+        let calls = row(copies, report.files, at);
         tell(rt, report, CALLS[at], start, calls)?;
     }
     Ok(())
 }
 
-// Fills the list, with room for all at once.
-pub fn fill(rt: &HostRuntime, files: u32) -> Option<u32> {
-    let mut copies = FailedCopies::new(rt.alloc()).ok()?;
-    copies.reserve(files).ok()?;
-    Some(row(&mut copies, files, 0))
+// Prints the lines of the failed copies.
+pub fn run(rt: &HostRuntime, report: Report) -> io::Result<()> {
+    match FailedCopies::new(rt.alloc()) {
+        Ok(mut copies) => run_lines(rt, report, &mut copies),
+        Err(_) => Ok(()),
+    }
+}
+
+// Adds so many copies, with room for all at once.
+fn fill_all(copies: &mut FailedCopies, files: u32) -> Option<u32> {
+    if copies.reserve(files).is_err() {
+        return None;
+    }
+    Some(row(copies, files, 0))
+}
+
+// Fills the list.
+pub fn fill(alloc: Global, files: u32) -> Option<u32> {
+    match FailedCopies::new(alloc) {
+        Ok(mut copies) => fill_all(&mut copies, files),
+        Err(_) => None,
+    }
 }

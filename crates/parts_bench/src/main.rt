@@ -16,41 +16,57 @@ mod waits;
 mod words;
 
 use crate::report::Report;
+use crate::site::valid_site;
 use crate::words::{Kind, Load, read_load};
+use cta_site::ValidSite;
+use std::alloc::Global;
 use std::io;
 
 // Runs all parts.
-fn run_all(rt: &HostRuntime, timed: bool, files: u32) -> io::Result<()> {
+fn run_all(rt: &HostRuntime, timed: bool, files: u32, site: &ValidSite) -> io::Result<()> {
     let report = Report { timed, files };
     names::run(rt, report)?;
-    tapes::run(rt, report)?;
+    tapes::run(rt, report, site)?;
     book::run(rt, report)?;
-    waits::run(rt, report)?;
-    reads::run(rt, report)?;
-    mounts::run(rt, report)?;
+    waits::run(rt, report, site)?;
+    reads::run(rt, report, site)?;
+    mounts::run(rt, report, site)?;
     choice::run(rt, report)?;
     failed::run(rt, report)
 }
 
 // Fills one part.
-fn fill(rt: &HostRuntime, part: Kind, files: u32) -> Option<u32> {
+fn fill(alloc: Global, part: Kind, files: u32, site: &ValidSite) -> Option<u32> {
     match part {
-        Kind::Archive => waits::fill(rt, files),
-        Kind::Retrieve => reads::fill(rt, files),
-        Kind::Tapes => tapes::fill(rt, files),
-        Kind::Book => book::fill(rt, files),
-        _ => failed::fill(rt, files),
+        Kind::Archive => waits::fill(alloc, files, site),
+        Kind::Retrieve => reads::fill(alloc, files, site),
+        Kind::Tapes => tapes::fill(alloc, files, site),
+        Kind::Book => book::fill(alloc, files),
+        _ => failed::fill(alloc, files),
     }
 }
 
-fn run(rt: &HostRuntime, load: Load) -> io::Result<()> {
+fn lacks_memory(rt: &HostRuntime) -> io::Result<()> {
+    eprintln!(rt; "parts_bench: no memory")
+}
+
+// Runs all parts, or fills the one that is named.
+fn run_over(rt: &HostRuntime, load: Load, site: &ValidSite) -> io::Result<()> {
     match load.kind {
-        Kind::Time => run_all(rt, true, load.files),
-        Kind::Count => run_all(rt, false, load.files),
-        part => match fill(rt, part, load.files) {
+        Kind::Time => run_all(rt, true, load.files, site),
+        Kind::Count => run_all(rt, false, load.files, site),
+        part => match fill(rt.alloc(), part, load.files, site) {
             Some(count) => println!(rt; "{count}"),
-            None => eprintln!(rt; "parts_bench: no memory"),
+            None => lacks_memory(rt),
         },
+    }
+}
+
+// The site of the bench is made here alone and lent to the parts, since a function that owns a site is dear to prove.
+fn run(rt: &HostRuntime, load: Load) -> io::Result<()> {
+    match valid_site(rt.alloc()) {
+        Some(site) => run_over(rt, load, &site),
+        None => lacks_memory(rt),
     }
 }
 

@@ -1,6 +1,5 @@
 // The open mounts and the quotas of VOs.
 use crate::report::{Report, tell};
-use crate::site::valid_site;
 use cta_model::Direction;
 use cta_site::ValidSite;
 use open_mounts::OpenMounts;
@@ -90,19 +89,23 @@ fn two(mounts: &mut OpenMounts) -> bool {
     open(mounts, 0, 0) && open(mounts, 1, 1)
 }
 
-fn run_mounts(rt: &HostRuntime, report: Report, site: &ValidSite) -> io::Result<()> {
-    let Ok(mut mounts) = OpenMounts::new(rt.alloc(), site) else {
-        return Ok(());
-    };
-    if !two(&mut mounts) {
+fn mount_lines(rt: &HostRuntime, report: Report, mounts: &mut OpenMounts) -> io::Result<()> {
+    if !two(mounts) {
         return Ok(());
     }
     for at in 0..7 {
         let start = Instant::now(rt)?;
-        let calls = row(&mut mounts, report.files, at);
+        let calls = row(mounts, report.files, at);
         tell(rt, report, CALLS[at], start, calls)?;
     }
     Ok(())
+}
+
+fn run_mounts(rt: &HostRuntime, report: Report, site: &ValidSite) -> io::Result<()> {
+    match OpenMounts::new(rt.alloc(), site) {
+        Ok(mut mounts) => mount_lines(rt, report, &mut mounts),
+        Err(_) => Ok(()),
+    }
 }
 
 fn open_and_end(quota: &mut VoQuota) -> bool {
@@ -134,23 +137,29 @@ fn quota_row(quota: &mut VoQuota, site: &ValidSite, files: u32, at: usize) -> u3
     files
 }
 
-fn run_quota(rt: &HostRuntime, report: Report, site: &ValidSite) -> io::Result<()> {
-    let Ok(mut quota) = VoQuota::new(rt.alloc(), site) else {
-        return Ok(());
-    };
+fn quota_lines(
+    rt: &HostRuntime,
+    report: Report,
+    site: &ValidSite,
+    quota: &mut VoQuota,
+) -> io::Result<()> {
     for at in 0..3 {
         let start = Instant::now(rt)?;
-        let calls = quota_row(&mut quota, site, report.files, at);
+        let calls = quota_row(quota, site, report.files, at);
         tell(rt, report, QUOTA_CALLS[at], start, calls)?;
     }
     Ok(())
 }
 
+fn run_quota(rt: &HostRuntime, report: Report, site: &ValidSite) -> io::Result<()> {
+    match VoQuota::new(rt.alloc(), site) {
+        Ok(mut quota) => quota_lines(rt, report, site, &mut quota),
+        Err(_) => Ok(()),
+    }
+}
+
 // Prints the lines of the open mounts and of the quotas.
-pub fn run(rt: &HostRuntime, report: Report) -> io::Result<()> {
-    let Some(site) = valid_site(rt.alloc()) else {
-        return Ok(());
-    };
-    run_mounts(rt, report, &site)?;
-    run_quota(rt, report, &site)
+pub fn run(rt: &HostRuntime, report: Report, site: &ValidSite) -> io::Result<()> {
+    run_mounts(rt, report, site)?;
+    run_quota(rt, report, site)
 }

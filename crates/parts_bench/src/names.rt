@@ -73,15 +73,31 @@ fn row(
     }
 }
 
-// Prints the lines of the index.
-pub fn run(rt: &HostRuntime, report: Report) -> io::Result<()> {
-    let paths = paths_of(rt.alloc(), report.files)?;
-    let mut texts = texts_of(rt.alloc(), paths.as_slice())?;
-    let mut index = NameIndex::new(rt.alloc(), RandomState::new(rt)?);
+fn run_lines(
+    rt: &HostRuntime,
+    report: Report,
+    index: &mut NameIndex,
+    texts: &mut Vec<Text>,
+    paths: &[String],
+) -> io::Result<()> {
     for at in 0..3 {
         let start = Instant::now(rt)?;
-        let calls = row(&mut index, &mut texts, paths.as_slice(), report.files, at);
+        let calls = row(index, texts, paths, report.files, at);
         tell(rt, report, CALLS[at], start, calls)?;
     }
     Ok(())
+}
+
+// Prints the lines of the index over these paths.
+fn run_paths(rt: &HostRuntime, report: Report, paths: &[String]) -> io::Result<()> {
+    let mut texts = texts_of(rt.alloc(), paths)?;
+    let keys = RandomState::new(rt)?;
+    let mut index = NameIndex::new(rt.alloc(), keys);
+    run_lines(rt, report, &mut index, &mut texts, paths)
+}
+
+// Prints the lines of the index.
+pub fn run(rt: &HostRuntime, report: Report) -> io::Result<()> {
+    let paths = paths_of(rt.alloc(), report.files)?;
+    run_paths(rt, report, paths.as_slice())
 }

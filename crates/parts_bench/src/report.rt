@@ -17,7 +17,7 @@ fn mean(nanos: u128, calls: u32) -> u128 {
     nanos / u128::from(calls)
 }
 
-// Prints the line of a call that was made so many times since the moment.
+// Prints the line of a call that was made so many times since the moment: their mean, or their number.
 pub fn tell(
     rt: &HostRuntime,
     report: Report,
@@ -25,9 +25,10 @@ pub fn tell(
     start: Instant,
     calls: u32,
 ) -> io::Result<()> {
-    if !report.timed {
-        return println!(rt; "{name} {calls}");
-    }
-    let nanos = mean(start.elapsed(rt)?.as_nanos(), calls);
-    println!(rt; "{name} {nanos}")
+    let figure = if report.timed {
+        mean(start.elapsed(rt)?.as_nanos(), calls)
+    } else {
+        u128::from(calls)
+    };
+    println!(rt; "{name} {figure}")
 }

@@ -2,9 +2,9 @@
 ghost use Rattle.std.specs.Prelude.{◌≡◌};
 
 use crate::report::{Report, tell};
-use crate::site::valid_site;
 use cta_model::{Fate, Item, Job, Sum256};
-use cta_site::TapeState;
+use cta_site::{TapeState, ValidSite};
+use std::alloc::Global;
 use std::io;
 use std::time::Instant;
 use tape_files::TapeFiles;
@@ -136,26 +136,35 @@ fn row(table: &mut TapeFiles, files: u32, at: usize) -> u32 {
     change_all(table, files, at)
 }
 
-// Prints the lines of the table.
-pub fn run(rt: &HostRuntime, report: Report) -> io::Result<()> {
-    let Some(site) = valid_site(rt.alloc()) else {
-        return Ok(());
-    };
-    let Ok(mut table) = TapeFiles::new(rt.alloc(), &site) else {
-        return Ok(());
-    };
+fn run_lines(rt: &HostRuntime, report: Report, table: &mut TapeFiles) -> io::Result<()> {
     for at in 0..10 {
         let start = Instant::now(rt)?;
-        let calls = row(&mut table, report.files, at);
+        let calls = row(table, report.files, at);
         tell(rt, report, CALLS[at], start, calls)?;
     }
     Ok(())
 }
 
-// Fills the table, with room for all at once.
-pub fn fill(rt: &HostRuntime, files: u32) -> Option<u32> {
-    let site = valid_site(rt.alloc())?;
-    let mut table = TapeFiles::new(rt.alloc(), &site).ok()?;
-    table.reserve(files).ok()?;
-    Some(flush_all(&mut table, files))
+// Prints the lines of the table.
+pub fn run(rt: &HostRuntime, report: Report, site: &ValidSite) -> io::Result<()> {
+    match TapeFiles::new(rt.alloc(), site) {
+        Ok(mut table) => run_lines(rt, report, &mut table),
+        Err(_) => Ok(()),
+    }
+}
+
+// Flushes so many files, with room for all at once.
+fn fill_all(table: &mut TapeFiles, files: u32) -> Option<u32> {
+    if table.reserve(files).is_err() {
+        return None;
+    }
+    Some(flush_all(table, files))
+}
+
+// Fills the table.
+pub fn fill(alloc: Global, files: u32, site: &ValidSite) -> Option<u32> {
+    match TapeFiles::new(alloc, site) {
+        Ok(mut table) => fill_all(&mut table, files),
+        Err(_) => None,
+    }
 }

@@ -4,9 +4,10 @@ ghost use Rattle.part_values.specs.Queues.{lines_in};
 ghost use Rattle.job_queues.specs.Waiting.{bytes_of};
 
 use crate::report::{Report, tell};
-use crate::site::valid_site;
 use archive_queue::ArchiveQueue;
 use cta_model::Job;
+use cta_site::ValidSite;
+use std::alloc::Global;
 use std::io;
 use std::marker::Model;
 use std::time::Instant;
@@ -119,34 +120,44 @@ fn row(waits: &mut Writes, files: u32, at: usize) -> u32 {
     files
 }
 
-// The queues of the site of the bench.
-fn start(rt: &HostRuntime) -> Option<Writes> {
-    let site = valid_site(rt.alloc())?;
+// The queues of a site of at least two pools.
+fn start(alloc: Global, site: &ValidSite) -> Option<Writes> {
     if site.pools().len() < 2 {
         return None;
     }
-    let queue = ArchiveQueue::new(rt.alloc(), &site).ok()?;
+    let queue = ArchiveQueue::new(alloc, site).ok()?;
     Some(Writes { queue })
 }
 
-// Prints the lines of the queues.
-pub fn run(rt: &HostRuntime, report: Report) -> io::Result<()> {
-    let Some(mut waits) = start(rt) else {
-        return Ok(());
-    };
+fn run_lines(rt: &HostRuntime, report: Report, waits: &mut Writes) -> io::Result<()> {
     for at in 0..5 {
         let start = Instant::now(rt)?;
-        let calls = row(&mut waits, report.files, at);
+        let calls = row(waits, report.files, at);
         tell(rt, report, CALLS[at], start, calls)?;
     }
     Ok(())
 }
 
-// Fills the queues, with room for all at once.
-pub fn fill(rt: &HostRuntime, files: u32) -> Option<u32> {
-    let mut waits = start(rt)?;
+// Prints the lines of the queues.
+pub fn run(rt: &HostRuntime, report: Report, site: &ValidSite) -> io::Result<()> {
+    match start(rt.alloc(), site) {
+        Some(mut waits) => run_lines(rt, report, &mut waits),
+        None => Ok(()),
+    }
+}
+
+// Adds so many jobs, with room for all at once.
+fn fill_all(waits: &mut Writes, files: u32) -> Option<u32> {
     if !waits.reserve(files) {
         return None;
     }
-    Some(row(&mut waits, files, 0))
+    Some(row(waits, files, 0))
+}
+
+// Fills the queues.
+pub fn fill(alloc: Global, files: u32, site: &ValidSite) -> Option<u32> {
+    match start(alloc, site) {
+        Some(mut waits) => fill_all(&mut waits, files),
+        None => None,
+    }
 }
