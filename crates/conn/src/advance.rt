@@ -98,6 +98,13 @@ fn advance_body(rest: &[u8], mut body: Collected) -> BodyStep
     }
 }
 
+// Puts a value in a place. That the one before it ends is proved here for any values, and not where all of its fields are known.
+fn set<T: Drop>(place: &mut T, value: T)
+    ensures { place.new ≡ value }
+{
+    *place = value;
+}
+
 // One step.
 pub(crate) fn advance(
     alloc: Global,
@@ -113,37 +120,37 @@ pub(crate) fn advance(
 {
     match mem::replace(state, State::Shut) {
         State::AtHead => {
-            *state = State::AtHead;
+            set(state, State::AtHead);
             advance_head(alloc, limit, rest, state)
         }
         State::Over => {
-            *state = State::Over;
+            set(state, State::Over);
             Ok(Advance::Gives(0, Next::Closed))
         }
         State::Shut => Ok(Advance::Gives(0, Next::Closed)),
         State::InBody(body) => match advance_body(rest, body) {
             BodyStep::Moved(used, body) => {
-                *state = State::InBody(body);
+                set(state, State::InBody(body));
                 Ok(Advance::Moved(used))
             }
             BodyStep::Need(body) => {
-                *state = State::InBody(body);
+                set(state, State::InBody(body));
                 Ok(Advance::Gives(0, Next::Need))
             }
             BodyStep::Refused(refusal) => {
-                *state = State::Over;
+                set(state, State::Over);
                 Ok(Advance::Gives(0, Next::Refused(refusal)))
             }
             BodyStep::Whole(used, request) => {
                 if request.close {
-                    *state = State::Over;
+                    set(state, State::Over);
                     return Ok(Advance::Gives(used, Next::Request(request)));
                 }
-                *state = State::AtHead;
+                set(state, State::AtHead);
                 Ok(Advance::Gives(used, Next::Request(request)))
             }
             BodyStep::NoMemory(body) => {
-                *state = State::InBody(body);
+                set(state, State::InBody(body));
                 Err(NoMemory)
             }
         },

@@ -46,14 +46,20 @@ fn media_of(alloc: Global) -> Option<Vec<Blank>>
 fn archive_of(alloc: Global, keys: RandomState) -> Option<Archive<Blank>>
     ensures { IfSome result (λ archive. 0 < length archive.site.drives.items) }
 {
-    let media = media_of(alloc)?;
     let site = site_of(alloc)?;
-    if site.drives().len() < 1 || site.tapes().len() != 1 {
+    if site.drives().len() < 1 {
         drop(site);
-        drop(media);
         return None;
     }
-    Archive::new(alloc, site, media, keys).ok()
+    if site.tapes().len() != 1 {
+        drop(site);
+        return None;
+    }
+    let media = media_of(alloc)?;
+    match Archive::new(alloc, site, media, keys) {
+        Ok(archive) => Some(archive),
+        Err(_) => None,
+    }
 }
 
 fn text(alloc: Global, text: &str) -> Result<Text, AllocError> {
@@ -180,7 +186,10 @@ fn sees_both(
     ensures here { IsPassOf ⟦<Archive<Blank> as Keeps>⟧.site hall.now pass.new }
     ensures seats { pass.new.seats ≡ pass.old.seats }
 {
-    both_on_disk(&hall.turn(rt, pass, ArchiveCall::Look { at: 100, look }))
+    let back = hall.turn(rt, pass, ArchiveCall::Look { at: 100, look });
+    let there = both_on_disk(&back);
+    drop(back);
+    there
 }
 
 // Whether a further file is refused since the history is full.
@@ -195,7 +204,10 @@ fn is_filled(
     ensures seats { pass.new.seats ≡ pass.old.seats }
 {
     let Put { who, path, blob } = put;
-    is_full(&put_file(rt, hall, pass, 100, who, path, blob))
+    let back = put_file(rt, hall, pass, 100, who, path, blob);
+    let full = is_full(&back);
+    drop(back);
+    full
 }
 
 // A drive is asked, and then a file is put: whether the drive mounts with the third entry, and whether the history is full then.
@@ -210,7 +222,9 @@ fn asks_and_fills(
     ensures here { IsPassOf ⟦<Archive<Blank> as Keeps>⟧.site hall.now pass.new }
     ensures seats { pass.new.seats ≡ pass.old.seats }
 {
-    let mounted = mounts(&ask_next(rt, hall, pass, 100, 0), 3);
+    let back = ask_next(rt, hall, pass, 100, 0);
+    let mounted = mounts(&back, 3);
+    drop(back);
     let filled = is_filled(rt, hall, pass, put);
     (mounted, filled)
 }
