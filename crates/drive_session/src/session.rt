@@ -101,14 +101,14 @@ impl<D: TapeDrive> Session<D> {
         match back {
             Err(wanting) => {
                 let (_, ask, hand) = wanting;
-                self.memo.kept = Some((ask, hand));
+                drop(mem::replace(&mut self.memo.kept, Some((ask, hand))));
                 StepLine::Memory
             }
             Ok(answered) => {
                 let (answer, hand) = answered;
                 let state = mem::replace(&mut self.memo.state, State::Free);
                 let (state, line) = taken(self.memo.asked, state, answer, hand);
-                self.memo.state = state;
+                drop(mem::replace(&mut self.memo.state, state));
                 self.memo.asked = Asked::Nothing(line);
                 line
             }
