@@ -1,12 +1,11 @@
 // The book of repacks.
 use crate::paths::{count_of, path_of, paths_of};
-use crate::report::{Report, file_at, lacks_memory, tell, tell_filled};
+use crate::report::{Lines, Report, file_at, lacks_memory, run_over};
 use cta_model::{ItemState, Job};
 use cta_site::{NoMemory, Rows, Text};
 use repack_book::RepackBook;
 use std::alloc::Global;
 use std::io;
-use std::time::Instant;
 
 // The lines of repacks of a hundred items.
 const HUNDREDS: [(usize, &str); 13] = [
@@ -173,7 +172,9 @@ impl Repacks {
         }
         told
     }
+}
 
+impl Lines for Repacks {
     fn row(&mut self, report: Report, at: usize) -> u32 {
         match at {
             0 => add_all(&mut self.book, &mut self.coming),
@@ -181,32 +182,6 @@ impl Repacks {
             _ => self.call_all(report, at),
         }
     }
-}
-
-fn run_lines(
-    rt: &HostRuntime,
-    report: Report,
-    repacks: &mut Repacks,
-    lines: &[(usize, &str)],
-) -> io::Result<()> {
-    for (at, name) in lines {
-        let start = Instant::now(rt)?;
-        let calls = repacks.row(report, *at);
-        tell(rt, report, *name, start, calls)?;
-    }
-    Ok(())
-}
-
-fn run_over(
-    rt: &HostRuntime,
-    report: Report,
-    repacks: &mut Repacks,
-    lines: &[(usize, &str)],
-) -> io::Result<()> {
-    if report.fills {
-        return tell_filled(rt, Some(repacks.row(report, 0)));
-    }
-    run_lines(rt, report, repacks, lines)
 }
 
 // Prints lines of repacks of so many items each, or fills the book with them.

@@ -56,3 +56,36 @@ pub fn tell_filled(rt: &HostRuntime, taken: Option<u32>) -> io::Result<()> {
         None => lacks_memory(rt),
     }
 }
+
+// A part whose calls are made line by line.
+pub trait Lines {
+    // Makes the calls of the line of this number; how many that were.
+    fn row(&mut self, report: Report, at: usize) -> u32;
+}
+
+fn run_lines<T: Lines>(
+    rt: &HostRuntime,
+    report: Report,
+    part: &mut T,
+    lines: &[(usize, &str)],
+) -> io::Result<()> {
+    for (at, name) in lines {
+        let start = Instant::now(rt)?;
+        let calls = part.row(report, *at);
+        tell(rt, report, *name, start, calls)?;
+    }
+    Ok(())
+}
+
+// Prints these lines of a part, or fills it by its first one.
+pub fn run_over<T: Lines>(
+    rt: &HostRuntime,
+    report: Report,
+    part: &mut T,
+    lines: &[(usize, &str)],
+) -> io::Result<()> {
+    if report.fills {
+        return tell_filled(rt, Some(part.row(report, 0)));
+    }
+    run_lines(rt, report, part, lines)
+}

@@ -1,14 +1,13 @@
 // The book of stage requests.
 use crate::batch::{Batch, batches};
 use crate::paths::{count_of, paths_of};
-use crate::report::{Report, file_at, lacks_memory, tell, tell_filled};
+use crate::report::{Lines, Report, file_at, lacks_memory, run_over};
 use cta_site::{NoMemory, Text};
 use part_values::FileEnd;
 use stage_book::StageBook;
 use std::alloc::Global;
 use std::hash::RandomState;
 use std::io;
-use std::time::Instant;
 
 // The lines of requests of ten files.
 const TENS: [(usize, &str); 13] = [
@@ -156,7 +155,9 @@ impl Stages {
         }
         gone
     }
+}
 
+impl Lines for Stages {
     fn row(&mut self, report: Report, at: usize) -> u32 {
         match at {
             0 => add_all(&mut self.book, &mut self.coming),
@@ -165,32 +166,6 @@ impl Stages {
             _ => self.call_all(report, at),
         }
     }
-}
-
-fn run_lines(
-    rt: &HostRuntime,
-    report: Report,
-    stages: &mut Stages,
-    lines: &[(usize, &str)],
-) -> io::Result<()> {
-    for (at, name) in lines {
-        let start = Instant::now(rt)?;
-        let calls = stages.row(report, *at);
-        tell(rt, report, *name, start, calls)?;
-    }
-    Ok(())
-}
-
-fn run_over(
-    rt: &HostRuntime,
-    report: Report,
-    stages: &mut Stages,
-    lines: &[(usize, &str)],
-) -> io::Result<()> {
-    if report.fills {
-        return tell_filled(rt, Some(stages.row(report, 0)));
-    }
-    run_lines(rt, report, stages, lines)
 }
 
 // Prints lines of requests of so many files each, or fills the book with them.
