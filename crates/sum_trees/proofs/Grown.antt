@@ -7,7 +7,7 @@ use Rattle.std.proofs.lemmas.Bool.{eqb-true}
 use Rattle.sum_trees.specs.Sums.{Sums, sum_of}
 use Rattle.sum_trees.specs.Nodes.{Entry, sum_at, has_place, AreApart, items_of}
 use Rattle.sum_trees.specs.Order.{IsSorted, inserted, placed, unlike, has_like, is_like, first_of}
-use Rattle.sum_trees.specs.Trees.{IsTree, HasTree, IsRoot, HasParts, CanFork, Becomes, Forks}
+use Rattle.sum_trees.specs.Trees.{IsTree, HasTree, IsRoot, HasParts, CanSettle, Becomes, Settles}
 use Rattle.sum_trees.specs.Changes.{HasSpace, CanEnter, Entered, IsCut, CutFirst, CutLike}
 use Rattle.sum_trees.specs.Searches.{entries_at, TellsFirst, TellsPassing, TellsSum}
 use Rattle.sum_trees.specs.Forests.{items_in, AreEmpty}
@@ -107,13 +107,13 @@ spare_few m ns rs spare others root over short s = record {
   few = (let all : (length spare + count_of others) + over ≡ length ns = s.counted in omega arith);
 }
 
-pub found_spare : {T S : Type 0} (m : Sums T S) (old new : List (Node T S)) (root count now : ℕ) (cut : change.Cut T) → length new ≡ length old → now ≡ count - 1 → CutFirst m old new root (Some cut)
+pub found_spare : {T S : Type 0} (m : Sums T S) (old new : List (Node T S)) (root count now : ℕ) (cut : change.Cut) → length new ≡ length old → now ≡ count - 1 → CutFirst m old new root (Some cut)
     → FindsPlace m old new (record { root = root; count = count }) (record { place = cut.place; spares = record { root = cut.rest; count = now } })
 found_spare {T = T} m old new root count now cut len is f rs spare others counted short s =
     let q = f spare (spare_few m old rs spare others root 0 short s) in
-    let t = cut_stands m old new (root ∷ rs) (spare ∷ others) 0 cut [] q.0 s (omega arith) len q.1 in
-    let n : length spare ≡ length ((cut.place, cut.item) ∷ q.0) = ap length q.1.was in
-    record { rest = q.0; stands = t.0; loose = t.1; one = omega arith; counted = omega arith; short = omega arith }
+    let t = cut_stands m old new (root ∷ rs) (spare ∷ others) 0 cut q.0 [] q.1 s (omega arith) len q.2 in
+    let n : length spare ≡ length ((cut.place, q.0) ∷ q.1) = ap length q.2.was in
+    record { rest = q.1; stands = t.0; loose = t.1; one = omega arith; counted = omega arith; short = omega arith }
 
 pub none_spare : {T S : Type 0} (m : Sums T S) (old mid : List (Node T S)) (root : ℕ) → IsRoot m old root → CutFirst m old mid root None → length (entries_at old root) ≡ 0
 none_spare {T = T} m old mid root r f =
@@ -223,18 +223,18 @@ found_one m b old mid rs spares found s f =
 
 -- ---- an item was taken out
 
-taken_cut : {T S : Type 0} (m : Sums T S) (b : T → T → Bool) (old mid : List (Node T S)) (rs : List ℕ) (spares : Spares) (k : ℕ) (x : T) (cut : change.Cut T) → IsGrove m b old rs spares → k < length rs
+taken_cut : {T S : Type 0} (m : Sums T S) (b : T → T → Bool) (old mid : List (Node T S)) (rs : List ℕ) (spares : Spares) (k : ℕ) (x : T) (cut : change.Cut) → IsGrove m b old rs spares → k < length rs
     → CutLike m b x old mid (slice_index_or rs k 0) (Some cut)
-    → (low : List (Entry T)) × (high : List (Entry T)) × IsCut m old mid cut low high (entries_at old (slice_index_or rs k 0)) × (is_like b x cut.item ≡ true)
+    → (y : T) × (low : List (Entry T)) × (high : List (Entry T)) × IsCut m old mid cut y low high (entries_at old (slice_index_or rs k 0)) × (is_like b x y ≡ true)
 taken_cut m b old mid rs spares k x cut s lt f = f (entries_at old (slice_index_or rs k 0)) (grove_tree m b old rs spares k s lt)
 
-taken_stands : {T S : Type 0} (m : Sums T S) (b : T → T → Bool) (old mid : List (Node T S)) (rs : List ℕ) (spares : Spares) (k : ℕ) (cut : change.Cut T) (low high : List (Entry T)) → IsGrove m b old rs spares → k < length rs
-    → length mid ≡ length old → IsCut m old mid cut low high (entries_at old (slice_index_or rs k 0))
+taken_stands : {T S : Type 0} (m : Sums T S) (b : T → T → Bool) (old mid : List (Node T S)) (rs : List ℕ) (spares : Spares) (k : ℕ) (cut : change.Cut) (y : T) (low high : List (Entry T)) → IsGrove m b old rs spares → k < length rs
+    → length mid ≡ length old → IsCut m old mid cut y low high (entries_at old (slice_index_or rs k 0))
     → StandApart m mid (spares.root ∷ set rs k cut.rest) (entries_at old spares.root ∷ set (map (entries_at old) rs) k (low ++ high)) 1
     × IsLoose mid (entries_at old spares.root ∷ set (map (entries_at old) rs) k (low ++ high)) cut.place
-taken_stands {T = T} m b old mid rs spares k cut low high s lt len q =
-    cut_stands m old mid (spares.root ∷ rs) (entries_at old spares.root ∷ map (entries_at old) rs) (suc k) cut low high s.stands (omega arith) len
-    (subst (λ (l : List (Entry T)). IsCut m old mid cut low high l) (sym (map_get (entries_at old) rs k lt)) q)
+taken_stands {T = T} m b old mid rs spares k cut y low high s lt len q =
+    cut_stands m old mid (spares.root ∷ rs) (entries_at old spares.root ∷ map (entries_at old) rs) (suc k) cut y low high s.stands (omega arith) len
+    (subst (λ (l : List (Entry T)). IsCut m old mid cut y low high l) (sym (map_get (entries_at old) rs k lt)) q)
 
 spare_parts : {T S : Type 0} (m : Sums T S) (mid : List (Node T S)) (root : ℕ) (rs : List ℕ) (spare : List (Entry T)) (others : List (List (Entry T))) (p : ℕ) (x : T) → length mid ≤ 4294967295
     → StandApart m mid (root ∷ rs) (spare ∷ others) 1 → IsLoose mid (spare ∷ others) p → HasParts m mid p x 4294967295 root [] spare
@@ -246,54 +246,56 @@ spare_parts m mid root rs spare others p x short t loose = record {
   few = (let all : (length spare + count_of others) + 1 ≡ length mid = t.counted in omega arith);
 }
 
-pub taken_fits : {T S : Type 0} (m : Sums T S) (b : T → T → Bool) (old mid : List (Node T S)) (rs : List ℕ) (spares : Spares) (k : ℕ) (x : T) (cut : change.Cut T) → IsGrove m b old rs spares → k < length rs → length mid ≡ length old
+pub taken_fits : {T S : Type 0} (m : Sums T S) (b : T → T → Bool) (old mid : List (Node T S)) (rs : List ℕ) (spares : Spares) (k : ℕ) (x : T) (cut : change.Cut) → IsGrove m b old rs spares → k < length rs → length mid ≡ length old
     → CutLike m b x old mid (slice_index_or rs k 0) (Some cut) → spares.count + 1 < 2 ^ 32
 taken_fits m b old mid rs spares k x cut s lt len f =
     let q = taken_cut m b old mid rs spares k x cut s lt f in
-    let t = taken_stands m b old mid rs spares k cut q.0 q.1 s lt len q.2 in
-    let all : (length (entries_at old spares.root) + count_of (set (map (entries_at old) rs) k (q.0 ++ q.1))) + 1 ≡ length mid = t.0.counted in
+    let t = taken_stands m b old mid rs spares k cut q.0 q.1 q.2 s lt len q.3 in
+    let all : (length (entries_at old spares.root) + count_of (set (map (entries_at old) rs) k (q.1 ++ q.2))) + 1 ≡ length mid = t.0.counted in
     let was : spares.count ≡ length (entries_at old spares.root) = s.counted in
     let short : length old ≤ 4294967295 = s.short in
     omega arith
 
-pub can_spare : {T S : Type 0} (m : Sums T S) (b : T → T → Bool) (old mid : List (Node T S)) (rs : List ℕ) (spares : Spares) (k : ℕ) (x : T) (cut : change.Cut T) → IsGrove m b old rs spares → k < length rs → length mid ≡ length old
-    → CutLike m b x old mid (slice_index_or rs k 0) (Some cut) → CanFork m mid cut.place cut.item 4294967295 spares.root
+pub can_spare : {T S : Type 0} (m : Sums T S) (b : T → T → Bool) (old mid : List (Node T S)) (rs : List ℕ) (spares : Spares) (k : ℕ) (x : T) (cut : change.Cut) → IsGrove m b old rs spares → k < length rs → length mid ≡ length old
+    → CutLike m b x old mid (slice_index_or rs k 0) (Some cut) → CanSettle m mid cut.place 4294967295 spares.root
 can_spare m b old mid rs spares k x cut s lt len f =
     let q = taken_cut m b old mid rs spares k x cut s lt f in
-    let t = taken_stands m b old mid rs spares k cut q.0 q.1 s lt len q.2 in
+    let t = taken_stands m b old mid rs spares k cut q.0 q.1 q.2 s lt len q.3 in
     let short : length old ≤ 4294967295 = s.short in
-    ([], entries_at old spares.root, spare_parts m mid spares.root (set rs k cut.rest) (entries_at old spares.root) (set (map (entries_at old) rs) k (q.0 ++ q.1)) cut.place cut.item (omega arith) t.0 t.1)
+    let n = q.3.kept.0 in
+    (n, q.3.kept.1, ([], entries_at old spares.root, spare_parts m mid spares.root (set rs k cut.rest) (entries_at old spares.root) (set (map (entries_at old) rs) k (q.1 ++ q.2)) cut.place n.item (omega arith) t.0 t.1))
 
-cut_items : {T S : Type 0} (m : Sums T S) {b : T → T → Bool} → IsOrder b → (old mid : List (Node T S)) (x : T) (cut : change.Cut T) (low high es : List (Entry T)) → IsCut m old mid cut low high es → is_like b x cut.item ≡ true → IsSorted b (items_of es)
+cut_items : {T S : Type 0} (m : Sums T S) {b : T → T → Bool} → IsOrder b → (old mid : List (Node T S)) (x : T) (cut : change.Cut) (y : T) (low high es : List (Entry T)) → IsCut m old mid cut y low high es → is_like b x y ≡ true → IsSorted b (items_of es)
     → items_of (low ++ high) ≡ unlike b x (items_of es)
-cut_items m {b = b} order old mid x cut low high es q like s =
-    let whole : items_of es ≡ items_of low ++ cut.item ∷ items_of high = ap items_of q.was ∙ items_append low ((cut.place, cut.item) ∷ high) in
-    items_append low high ∙ sym (unlike_cut order x (items_of low) cut.item (items_of high) like (subst (IsSorted b) whole s)) ∙ ap (unlike b x) (sym whole)
+cut_items m {b = b} order old mid x cut y low high es q like s =
+    let whole : items_of es ≡ items_of low ++ y ∷ items_of high = ap items_of q.was ∙ items_append low ((cut.place, y) ∷ high) in
+    items_append low high ∙ sym (unlike_cut order x (items_of low) y (items_of high) like (subst (IsSorted b) whole s)) ∙ ap (unlike b x) (sym whole)
 
-pub was_taken : {T S : Type 0} (m : Sums T S) {b : T → T → Bool} → IsOrder b → (old mid new : List (Node T S)) (rs : List ℕ) (root count now : ℕ) (k : ℕ) (x : T) (cut : change.Cut T) → IsGrove m b old rs (record { root = root; count = count }) → k < length rs
-    → length mid ≡ length old → CutLike m b x old mid (slice_index_or rs k 0) (Some cut) → length new ≡ length mid → Forks m mid new cut.place cut.item 4294967295 root cut.place → now ≡ count + 1
+pub was_taken : {T S : Type 0} (m : Sums T S) {b : T → T → Bool} → IsOrder b → (old mid new : List (Node T S)) (rs : List ℕ) (root count now : ℕ) (k : ℕ) (x : T) (cut : change.Cut) → IsGrove m b old rs (record { root = root; count = count }) → k < length rs
+    → length mid ≡ length old → CutLike m b x old mid (slice_index_or rs k 0) (Some cut) → length new ≡ length mid → Settles m mid new cut.place 4294967295 root cut.place → now ≡ count + 1
     → GroveBecomes m b old new rs (set rs k cut.rest) (record { root = cut.place; count = now }) k (unlike b x (items_at old (slice_index_or rs k 0)))
-was_taken {T = T} m {b = b} order old mid new rs root count now k x cut s lt len f size forks more =
+was_taken {T = T} m {b = b} order old mid new rs root count now k x cut s lt len f size settles more =
     let spares : Spares = record { root = root; count = count } in
     let es = entries_at old (slice_index_or rs k 0) in
     let spare = entries_at old root in
     let q = taken_cut m b old mid rs spares k x cut s lt f in
-    let rest = set (map (entries_at old) rs) k (q.0 ++ q.1) in
-    let t = taken_stands m b old mid rs spares k cut q.0 q.1 s lt len q.2 in
+    let rest = set (map (entries_at old) rs) k (q.1 ++ q.2) in
+    let t = taken_stands m b old mid rs spares k cut q.0 q.1 q.2 s lt len q.3 in
     let short : length old ≤ 4294967295 = s.short in
-    let e : Becomes m mid new cut.place ((cut.place, cut.item) ∷ spare) = forks [] spare (spare_parts m mid root (set rs k cut.rest) spare rest cut.place cut.item (omega arith) t.0 t.1) in
-    let back = enter_stands m mid new (root ∷ set rs k cut.rest) (spare ∷ rest) 0 cut.place cut.place ((cut.place, cut.item) ∷ spare) t.0 t.1 (omega arith) size e (λ j. refl) (t.1.outside 0, t.0.apart 0) (omega arith) in
-    let items : items_of (q.0 ++ q.1) ≡ unlike b x (items_of es) = cut_items m order old mid x cut q.0 q.1 es q.2 q.3 (s.sorted k lt) in
+    let n = q.3.kept.0 in
+    let e : Becomes m mid new cut.place ((cut.place, n.item) ∷ spare) = settles n q.3.kept.1 [] spare (spare_parts m mid root (set rs k cut.rest) spare rest cut.place n.item (omega arith) t.0 t.1) in
+    let back = enter_stands m mid new (root ∷ set rs k cut.rest) (spare ∷ rest) 0 cut.place cut.place ((cut.place, n.item) ∷ spare) t.0 t.1 (omega arith) size e (λ j. refl) (t.1.outside 0, t.0.apart 0) (omega arith) in
+    let items : items_of (q.1 ++ q.2) ≡ unlike b x (items_of es) = cut_items m order old mid x cut q.0 q.1 q.2 es q.3 q.4 (s.sorted k lt) in
     let was : count ≡ length spare = s.counted in
     subst (λ (l : List T). GroveBecomes m b old new rs (set rs k cut.rest) (record { root = cut.place; count = now }) k l) items
-    (grove_after m b old new rs spares (record { root = cut.place; count = now }) k cut.rest ((cut.place, cut.item) ∷ spare) (q.0 ++ q.1) s lt back
+    (grove_after m b old new rs spares (record { root = cut.place; count = now }) k cut.rest ((cut.place, n.item) ∷ spare) (q.1 ++ q.2) s lt back
     (subst (IsSorted b) (sym items) (unlike_sorted b x (items_of es) (s.sorted k lt))) (omega arith) (omega arith))
 
-pub had_like : {T S : Type 0} (m : Sums T S) (b : T → T → Bool) (old mid : List (Node T S)) (rs : List ℕ) (spares : Spares) (k : ℕ) (x : T) (cut : change.Cut T) → IsGrove m b old rs spares → k < length rs
+pub had_like : {T S : Type 0} (m : Sums T S) (b : T → T → Bool) (old mid : List (Node T S)) (rs : List ℕ) (spares : Spares) (k : ℕ) (x : T) (cut : change.Cut) → IsGrove m b old rs spares → k < length rs
     → CutLike m b x old mid (slice_index_or rs k 0) (Some cut) → true ≡ has_like b x (items_at old (slice_index_or rs k 0))
 had_like m b old mid rs spares k x cut s lt f =
     let q = taken_cut m b old mid rs spares k x cut s lt f in
-    sym (ap (λ l. has_like b x (items_of l)) q.2.was ∙ ap (has_like b x) (items_append q.0 ((cut.place, cut.item) ∷ q.1)) ∙ has_like_at b x (items_of q.0) cut.item (items_of q.1) q.3)
+    sym (ap (λ l. has_like b x (items_of l)) q.3.was ∙ ap (has_like b x) (items_append q.1 ((cut.place, q.0) ∷ q.2)) ∙ has_like_at b x (items_of q.1) q.0 (items_of q.2) q.4)
 
 pub had_none : {T S : Type 0} (m : Sums T S) (b : T → T → Bool) (old mid : List (Node T S)) (rs : List ℕ) (spares : Spares) (k : ℕ) (x : T) → IsGrove m b old rs spares → k < length rs
     → CutLike m b x old mid (slice_index_or rs k 0) None → false ≡ has_like b x (items_at old (slice_index_or rs k 0))

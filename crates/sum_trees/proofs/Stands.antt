@@ -89,20 +89,20 @@ set_stands {T = T} m old new rs ess over now i r es s lt t apart keeps out count
 
 -- ---- an entry is cut out
 
-pub cut_stands : {T S : Type 0} (m : Sums T S) (old new : List (Node T S)) (rs : List ℕ) (ess : List (List (Entry T))) (i : ℕ) (cut : change.Cut T) (low high : List (Entry T)) → StandApart m old rs ess 0 → i < length rs
-    → length new ≡ length old → IsCut m old new cut low high (entries_in ess i) → StandApart m new (set rs i cut.rest) (set ess i (low ++ high)) 1 × IsLoose new (set ess i (low ++ high)) cut.place
-cut_stands {T = T} m old new rs ess i cut low high s lt len q = (
-  set_stands m old new rs ess 0 1 i cut.rest (low ++ high) s lt q.stands (drops low (cut.place, cut.item) high whole_apart)
+pub cut_stands : {T S : Type 0} (m : Sums T S) (old new : List (Node T S)) (rs : List ℕ) (ess : List (List (Entry T))) (i : ℕ) (cut : change.Cut) (y : T) (low high : List (Entry T)) → StandApart m old rs ess 0 → i < length rs
+    → length new ≡ length old → IsCut m old new cut y low high (entries_in ess i) → StandApart m new (set rs i cut.rest) (set ess i (low ++ high)) 1 × IsLoose new (set ess i (low ++ high)) cut.place
+cut_stands {T = T} m old new rs ess i cut y low high s lt len q = (
+  set_stands m old new rs ess 0 1 i cut.rest (low ++ high) s lt q.stands (drops low (cut.place, y) high whole_apart)
       (λ j p ne h. q.same p (s.two j i (turned i j ne) p h))
-      (λ j p ne h. s.two i j ne p (subst (λ (l : List (Entry T)). has_place p l ≡ true) (sym q.was) (in_more p low (cut.place, cut.item) high h)))
+      (λ j p ne h. s.two i j ne p (subst (λ (l : List (Entry T)). has_place p l ≡ true) (sym q.was) (in_more p low (cut.place, y) high h)))
       counted,
   record {
-    is_place = q.is_place;
+    is_place = ap is_some q.kept.1;
     outside = λ j. elim (i == j) as (λ b. (i == j) ≡ b → has_place cut.place (entries_in (set ess i (low ++ high)) j) ≡ false) [
       | true ↦ λ is. subst (λ (k : ℕ). has_place cut.place (entries_in (set ess i (low ++ high)) k) ≡ false) (eqb-true i j is)
           (ap (has_place cut.place) (set_here ess i (low ++ high) [] lt_ess) ∙ (place_append cut.place low high ∙ neither _ _ c.not_low c.not_high))
       | false ↦ λ is. ap (has_place cut.place) (set_there ess i j (low ++ high) [] is)
-          ∙ s.two i j is cut.place (subst (λ (l : List (Entry T)). has_place cut.place l ≡ true) (sym q.was) (at_fork cut.place low cut.item high))
+          ∙ s.two i j is cut.place (subst (λ (l : List (Entry T)). has_place cut.place l ≡ true) (sym q.was) (at_fork cut.place low y high))
     ] refl;
   },
 )
@@ -110,11 +110,11 @@ cut_stands {T = T} m old new rs ess i cut low high s lt len q = (
     lt_ess : i < length ess
     lt_ess = (let e : length ess ≡ length rs = s.as_many in omega arith)
 
-    whole_apart : AreApart (low ++ (cut.place, cut.item) ∷ high)
+    whole_apart : AreApart (low ++ (cut.place, y) ∷ high)
     whole_apart = subst AreApart q.was (s.apart i)
 
-    c : Cut low (cut.place, cut.item) high
-    c = cut_of low (cut.place, cut.item) high whole_apart
+    c : Cut low (cut.place, y) high
+    c = cut_of low (cut.place, y) high whole_apart
 
     turned : (j k : ℕ) → (j == k) ≡ false → (k == j) ≡ false
     turned j k h = grind arith
@@ -140,9 +140,9 @@ cut_stands {T = T} m old new rs ess i cut low high s lt len q = (
     counted : count_of (set ess i (low ++ high)) + 1 ≡ length new
     counted =
         (let sum : count_of (set ess i (low ++ high)) + length (entries_in ess i) ≡ count_of ess + length (low ++ high) = count_set ess i (low ++ high) lt_ess in
-        let was : length (entries_in ess i) ≡ length (low ++ (cut.place, cut.item) ∷ high) = ap length q.was in
+        let was : length (entries_in ess i) ≡ length (low ++ (cut.place, y) ∷ high) = ap length q.was in
         let all : count_of ess + 0 ≡ length old = s.counted in
-        omega (arith, length-append low ((cut.place, cut.item) ∷ high), length-append low high))
+        omega (arith, length-append low ((cut.place, y) ∷ high), length-append low high))
 
 -- ---- an entry comes in
 

@@ -38,23 +38,23 @@ CanJoin {T = T} m ns left right = (low : List (Entry T)) × (high : List (Entry 
 abbrev pub Joined : {T S : Type 0} → Sums T S → List (Node T S) → List (Node T S) → ℕ → ℕ → ℕ → Type 0
 Joined {T = T} m old new left right root = (low high : List (Entry T)) → HasBoth m old left right low high → Becomes m old new root (low ++ high)
 
--- an entry was cut out between these, and the others are a tree
-pub record IsCut {T S : Type 0} (m : Sums T S) (old new : List (Node T S)) (cut : Cut T) (low high es : List (Entry T)) : Type 0 where
-  pub was : es ≡ low ++ (cut.place, cut.item) ∷ high
+-- an entry was cut out between these, its node still has its item, and the others are a tree
+pub record IsCut {T S : Type 0} (m : Sums T S) (old new : List (Node T S)) (cut : Cut) (y : T) (low high es : List (Entry T)) : Type 0 where
+  pub was : es ≡ low ++ (cut.place, y) ∷ high
   pub stands : IsTree m new cut.rest (low ++ high)
   pub same : AreSame es old new
-  pub is_place : is_some (node_at new cut.place) ≡ true
+  pub kept : (n : Node T S) × (node_at new cut.place ≡ Some n) × (n.item ≡ y)
 
 -- the first entry was cut out, or there was none
-abbrev pub CutFirst : {T S : Type 0} → Sums T S → List (Node T S) → List (Node T S) → ℕ → Option (Cut T) → Type 0
+abbrev pub CutFirst : {T S : Type 0} → Sums T S → List (Node T S) → List (Node T S) → ℕ → Option Cut → Type 0
 CutFirst {T = T} m old new root None = (new ≡ old) × ((es : List (Entry T)) → IsTree m old root es → es ≡ [])
-CutFirst {T = T} m old new root (Some cut) = (es : List (Entry T)) → HasTree m old root es → (high : List (Entry T)) × IsCut m old new cut [] high es
+CutFirst {T = T} m old new root (Some cut) = (es : List (Entry T)) → HasTree m old root es → (y : T) × (high : List (Entry T)) × IsCut m old new cut y [] high es
 
 -- the entry whose item is like this one was cut out, or there was none
-abbrev pub CutLike : {T S : Type 0} → Sums T S → (T → T → Bool) → T → List (Node T S) → List (Node T S) → ℕ → Option (Cut T) → Type 0
+abbrev pub CutLike : {T S : Type 0} → Sums T S → (T → T → Bool) → T → List (Node T S) → List (Node T S) → ℕ → Option Cut → Type 0
 CutLike {T = T} m b x old new root None = (new ≡ old) × ((es : List (Entry T)) → IsTree m old root es → IsSorted b (items_of es) → has_like b x (items_of es) ≡ false)
 CutLike {T = T} m b x old new root (Some cut) =
-    (es : List (Entry T)) → HasTree m old root es → (low : List (Entry T)) × (high : List (Entry T)) × IsCut m old new cut low high es × (is_like b x cut.item ≡ true)
+    (es : List (Entry T)) → HasTree m old root es → (y : T) × (low : List (Entry T)) × (high : List (Entry T)) × IsCut m old new cut y low high es × (is_like b x y ≡ true)
 
 -- a tree of items in order stands at the place
 abbrev pub StandsInOrder : {T S : Type 0} → Sums T S → (T → T → Bool) → List (Node T S) → ℕ → Type 0

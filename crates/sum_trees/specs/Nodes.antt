@@ -29,6 +29,10 @@ height_at ns k = height_in (node_at ns k)
 abbrev pub sum_at : {T S : Type 0} → List (Node T S) → ℕ → Option S
 sum_at ns k = option_map (λ n. n.sum) (node_at ns k)
 
+-- the item at a place, none at the place that stands for the empty tree
+abbrev pub item_at : {T S : Type 0} → List (Node T S) → ℕ → Option T
+item_at ns k = option_map (λ n. n.item) (node_at ns k)
+
 -- whether an item of these has its node at the place
 abbrev pub has_place : {T : Type 0} → ℕ → List (Entry T) → Bool
 has_place k [] = false

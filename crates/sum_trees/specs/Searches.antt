@@ -14,6 +14,15 @@ TellsFirst {T = T} m ns root told = (es : List (Entry T)) → IsTree m ns root e
 abbrev pub TellsPassing : {T S : Type 0} → Sums T S → (T → T → Bool) → (T → Bool) → List (Node T S) → ℕ → Option T → Type 0
 TellsPassing {T = T} m b p ns root told = (es : List (Entry T)) → IsTree m ns root es → IsSorted b (items_of es) → told ≡ first_of (filter p (items_of es))
 
+-- what is there, or else another one
+abbrev pub or_else : {T : Type 0} → Option T → Option T → Option T
+or_else None y = y
+or_else (Some x) y = Some x
+
+-- the first item of the tree in order that passes a test, or another one where none does
+abbrev pub TellsPassingOr : {T S : Type 0} → Sums T S → (T → T → Bool) → (T → Bool) → List (Node T S) → ℕ → Option T → Option T → Type 0
+TellsPassingOr {T = T} m b p ns root other told = (es : List (Entry T)) → IsTree m ns root es → IsSorted b (items_of es) → told ≡ or_else (first_of (filter p (items_of es))) other
+
 -- the first item of the tree in order that this one comes before
 abbrev pub TellsAfter : {T S : Type 0} → Sums T S → (T → T → Bool) → List (Node T S) → ℕ → T → Option T → Type 0
 TellsAfter m b ns root x told = TellsPassing m b (b x) ns root told

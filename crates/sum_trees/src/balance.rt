@@ -79,13 +79,7 @@ fn lean_right<T: Summed>(nodes: &mut [Node<T, T::Sum>], at: u32) -> u32
 }
 
 // The tree of two trees with this item between them, turned where one side is higher by two or more. The place of the whole.
-pub(crate) fn balance<T: Summed>(
-    nodes: &mut [Node<T, T::Sum>],
-    at: u32,
-    item: T,
-    left: u32,
-    right: u32,
-) -> u32
+fn balance<T: Summed>(nodes: &mut [Node<T, T::Sum>], at: u32, item: T, left: u32, right: u32) -> u32
     requires { CanFork T.sums nodes.old at item left right }
     ensures { Forks T.sums nodes.old nodes.new at item left right result }
 {
@@ -100,6 +94,18 @@ pub(crate) fn balance<T: Summed>(
     }
     fork(nodes, at, item, left, right);
     at
+}
+
+// The tree of the item that stands at a place with these two trees round it, turned where one side is higher by two or more. The
+// place of the whole.
+pub(crate) fn turn<T: Summed>(nodes: &mut [Node<T, T::Sum>], at: u32, left: u32, right: u32) -> u32
+    requires { CanSettle T.sums nodes.old at left right }
+    ensures { Settles T.sums nodes.old nodes.new at left right result }
+{
+    let Some(node) = node_of(nodes, at) else {
+        return at;
+    };
+    balance(nodes, at, node.item, left, right)
 }
 
 // The tree of the item that stands at a place with these two trees round it. Where neither side is higher by two or more, its node is
@@ -119,7 +125,7 @@ pub(crate) fn settle<T: Summed>(
     let (before, after) = (node_of(nodes, left), node_of(nodes, right));
     let (low, high) = (height_in(&before), height_in(&after));
     if low > high + 1 || high > low + 1 {
-        return balance(nodes, at, node.item, left, right);
+        return turn(nodes, at, left, right);
     }
     fork_round(nodes, at, node.item, left, right, &before, &after);
     at

@@ -2,15 +2,14 @@
 ghost use Rattle.sum_trees.specs.Changes.{CanEnter, Entered, CanJoin, Joined, CutFirst, CutLike, StandsInOrder, TakesPlace};
 ghost use Rattle.sum_trees.specs.Trees.{IsRoot};
 
-use crate::balance::{balance, settle};
+use crate::balance::{settle, turn};
 use crate::nodes::{NOWHERE, Node, fork, node_of};
 use crate::summed::Summed;
 
-// An item that was cut out of a tree, the place of its node, and the place of the tree of the others.
+// What was cut out of a tree: the place of its node, which still has the item, and the place of the tree of the others.
 #[derive(Clone, Copy)]
-pub(crate) struct Cut<T> {
+pub(crate) struct Cut {
     pub(crate) place: u32,
-    pub(crate) item: T,
     pub(crate) rest: u32,
 }
 
@@ -36,7 +35,7 @@ pub(crate) fn enter<T: Summed>(nodes: &mut [Node<T, T::Sum>], root: u32, at: u32
 }
 
 // Cuts out the first item, where there is one.
-pub(crate) fn cut_first<T: Summed>(nodes: &mut [Node<T, T::Sum>], root: u32) -> Option<Cut<T>>
+pub(crate) fn cut_first<T: Summed>(nodes: &mut [Node<T, T::Sum>], root: u32) -> Option<Cut>
     requires { IsRoot T.sums nodes.old root }
     ensures { CutFirst T.sums nodes.old nodes.new root result }
 {
@@ -45,14 +44,12 @@ pub(crate) fn cut_first<T: Summed>(nodes: &mut [Node<T, T::Sum>], root: u32) -> 
         Some(node) => match cut_first(nodes, node.left) {
             None => Some(Cut {
                 place: root,
-                item: node.item,
                 rest: node.right,
             }),
             Some(cut) => {
                 let rest = settle(nodes, root, cut.rest, node.right);
                 Some(Cut {
                     place: cut.place,
-                    item: cut.item,
                     rest,
                 })
             }
@@ -67,16 +64,12 @@ fn join<T: Summed>(nodes: &mut [Node<T, T::Sum>], left: u32, right: u32) -> u32
 {
     match cut_first(nodes, right) {
         None => left,
-        Some(cut) => balance(nodes, cut.place, cut.item, left, cut.rest),
+        Some(cut) => turn(nodes, cut.place, left, cut.rest),
     }
 }
 
 // Cuts out the item that is like this one, where there is one.
-pub(crate) fn cut_like<T: Summed>(
-    nodes: &mut [Node<T, T::Sum>],
-    root: u32,
-    like: &T,
-) -> Option<Cut<T>>
+pub(crate) fn cut_like<T: Summed>(nodes: &mut [Node<T, T::Sum>], root: u32, like: &T) -> Option<Cut>
     requires { IsRoot T.sums nodes.old root }
     ensures { CutLike T.sums T.before like.now nodes.old nodes.new root result }
 {
@@ -90,7 +83,6 @@ pub(crate) fn cut_like<T: Summed>(
                         let rest = settle(nodes, root, cut.rest, node.right);
                         Some(Cut {
                             place: cut.place,
-                            item: cut.item,
                             rest,
                         })
                     }
@@ -103,18 +95,13 @@ pub(crate) fn cut_like<T: Summed>(
                         let rest = settle(nodes, root, node.left, cut.rest);
                         Some(Cut {
                             place: cut.place,
-                            item: cut.item,
                             rest,
                         })
                     }
                 };
             }
             let rest = join(nodes, node.left, node.right);
-            Some(Cut {
-                place: root,
-                item: node.item,
-                rest,
-            })
+            Some(Cut { place: root, rest })
         }
     }
 }

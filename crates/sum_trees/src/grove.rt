@@ -7,7 +7,7 @@ ghost use Rattle.sum_trees.specs.Searches.{entries_at};
 ghost use Rattle.sum_trees.specs.Trees.{IsRoot};
 
 use crate::change::{Cut, cut_first, cut_like, enter};
-use crate::nodes::{NOWHERE, Node, fork};
+use crate::nodes::{NOWHERE, Node, lay};
 use crate::summed::Summed;
 
 // The nodes that no tree uses: the place of their own tree, and how many there are.
@@ -25,7 +25,7 @@ pub(crate) struct Found {
 }
 
 // Cuts the first item out of a tree in a vector of nodes.
-fn cut_spare<T: Summed>(nodes: &mut Vec<Node<T, T::Sum>>, root: u32) -> Option<Cut<T>>
+fn cut_spare<T: Summed>(nodes: &mut Vec<Node<T, T::Sum>>, root: u32) -> Option<Cut>
     requires { IsRoot T.sums nodes.old.items root }
     ensures cut { CutFirst T.sums nodes.old.items nodes.new.items root result }
     ensures length { length nodes.new.items ≡ length nodes.old.items }
@@ -135,7 +135,7 @@ pub(crate) fn take_out<T: Summed>(
         },
         Some(cut) => {
             roots[tree as usize] = cut.rest;
-            fork(nodes, cut.place, cut.item, NOWHERE, spares.root);
+            lay(nodes, cut.place, NOWHERE, spares.root);
             Removed {
                 found: true,
                 spares: Spares {

@@ -3,7 +3,7 @@ ghost use Rattle.std.specs.Prelude.{◌≡◌, ◌+◌, ◌<◌, ◌≤◌, ◌^
 ghost use Rattle.sum_trees.specs.Sums.{Sums, sum_of};
 ghost use Rattle.sum_trees.specs.Nodes.{height_at, height_in, node_at, sum_at};
 ghost use Rattle.sum_trees.specs.Around.{around};
-ghost use Rattle.sum_trees.specs.Trees.{CanFork, Forks};
+ghost use Rattle.sum_trees.specs.Trees.{CanFork, CanSettle, Forks, Settles};
 
 use crate::summed::Summed;
 
@@ -143,4 +143,15 @@ pub(crate) fn fork<T: Summed>(
 {
     let (before, after) = (node_of(nodes, left), node_of(nodes, right));
     fork_round(nodes, at, item, left, right, &before, &after);
+}
+
+// Makes the node at a place the fork of two trees, with its own item between them.
+pub(crate) fn lay<T: Summed>(nodes: &mut [Node<T, T::Sum>], at: u32, left: u32, right: u32)
+    requires { CanSettle T.sums nodes.old at left right }
+    ensures { Settles T.sums nodes.old nodes.new at left right at }
+{
+    let Some(node) = node_of(nodes, at) else {
+        return;
+    };
+    fork(nodes, at, node.item, left, right);
 }

@@ -17,9 +17,6 @@ overflow_add-low g c =
     let is : c.height_in-low.result ≡ height_at c.args.nodes.now c.args.left = c.height_in-low.ensures ∙ ap height_in c.node_of-before.ensures in
     omega arith
 
-pub balance-requires : goal.balance-requires
-balance-requires g c = can_here g.T.Summed.sums c.args.nodes.now c.args.at c.in-Some.node c.args.left c.args.right c.requires (sym c.node_of.ensures ∙ c.in-Some.is)
-
 pub fork_round-requires : goal.fork_round-requires
 fork_round-requires g c = record {
   fork = can_here g.T.Summed.sums c.args.nodes.now c.args.at c.in-Some.node c.args.left c.args.right c.requires (sym c.node_of.ensures ∙ c.in-Some.is);
