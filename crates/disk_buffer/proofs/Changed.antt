@@ -6,6 +6,7 @@ use Rattle.blob.specs.declared.sum.Sum256.{Sum256}
 use Rattle.blob.specs.Sums.{sum_of}
 use Rattle.cta_model.specs.History.{has_number}
 use Rattle.part_values.specs.Held.{bytes_of}
+use Rattle.std.proofs.Math.Bool.{beq}
 use Rattle.std.proofs.Math.ListN.{set}
 use Rattle.sum_trees.specs.Forests.{items_in}
 use Rattle.sum_trees.specs.Order.{has_like, inserted, is_like, replaced, unlike}
@@ -109,6 +110,25 @@ pub flagged_stays : (f : ℕ) (s : Bool) (t : ℕ) (rs : List Row) → stays_of 
 flagged_stays f s t [] = refl
 flagged_stays f s t (x ∷ xs) =
     (λ i. elim (x.file == f) as (λ c. stay_of (if c then flagged s t x else x) ≡ (if c then record (stay_of x) { safe = s } else stay_of x)) [ true ↦ refl | false ↦ refl ] i ∷ flagged_stays f s t xs i)
+
+-- ---- a row that has the value already
+
+same_row : (f : ℕ) (r : Row) (u : Stay → Stay) → u (stay_of r) ≡ stay_of r → (rs : List Row) → IsRowOf f r rs → stays_of rs ≡ map (λ (s : Stay). if s.file == f then u s else s) (stays_of rs)
+same_row f r u e [] s = refl
+same_row f r u e (x ∷ xs) s =
+    (λ i. elim (x.file == f) as (λ c. (x.file == f) ≡ c → stay_of x ≡ (if c then u (stay_of x) else stay_of x)) [ true ↦ λ k. ap stay_of (s.1 k) ∙ sym e ∙ ap (λ (y : Row). u (stay_of y)) (sym (s.1 k)) | false ↦ λ k. refl ] refl i ∷ same_row f r u e xs s.2 i)
+
+pub same_end : (f u : ℕ) (r : Row) (rs : List Row) (v : List Stay) → stays_of rs ≡ v → IsRowOf f r rs → r.until ≡ u → v ≡ with_end f u v
+same_end f u r rs v e s h = sym e ∙ same_row f r (λ (x : Stay). record x { until = u }) (λ i. record (stay_of r) { until = sym h i }) rs s ∙ ap (with_end f u) e
+
+same_bool : (a b : Bool) → beq a b ≡ true → a ≡ b
+same_bool true true e = refl
+same_bool true false e = absurd (cc)
+same_bool false true e = absurd (cc)
+same_bool false false e = refl
+
+pub same_flag : (f : ℕ) (b : Bool) (r : Row) (rs : List Row) (v : List Stay) → stays_of rs ≡ v → IsRowOf f r rs → beq r.safe b ≡ true → v ≡ with_flag f b v
+same_flag f b r rs v e s h = sym e ∙ same_row f r (λ (x : Stay). record x { safe = b }) (λ i. record (stay_of r) { safe = sym (same_bool r.safe b h) i }) rs s ∙ ap (with_flag f b) e
 
 -- ---- a file that is not there
 

@@ -1,14 +1,14 @@
 -- Pins after the calls of their tree.
 use Rattle.std.proofs.Common.{◌≡◌, ◌∙◌, ◌<◌, ◌≤◌, ◌+◌, ℕ, suc, List, [], ◌∷◌, length, Option, Some, None, Bool, true, false, ◌||◌, ◌&&◌, refl, sym, ap, subst, arith}
-use Rattle.std.specs.Prelude.{◌==◌, not, filter, max, nat_lt, if◌then◌else◌}
+use Rattle.std.specs.Prelude.{◌==◌, not, filter, is_some, max, nat_lt, if◌then◌else◌}
 use Rattle.std.proofs.Math.ListN.{set}
 use Rattle.part_values.specs.declared.space.HeldPin.{HeldPin}
 use Rattle.part_values.specs.Held.{pins_in, pins_without}
 use Rattle.sum_trees.specs.Sums.{Sums, led, sum_of}
-use Rattle.sum_trees.specs.Order.{GoesFirst, IsSorted, between, first_from, first_like, first_of, has_like, inserted, is_like, unlike}
+use Rattle.sum_trees.specs.Order.{GoesFirst, IsSorted, between, first_from, first_like, first_of, has_like, inserted, is_like, replaced, unlike}
 use Rattle.sum_trees.specs.Forests.{items_in}
 use Rattle.sum_trees.proofs.Stands.{set_here, set_length}
-use Rattle.sum_trees.proofs.Orders.{IsOrder, clash, unpicked, unlike_first}
+use Rattle.sum_trees.proofs.Orders.{IsOrder, clash, high_not_like, unpicked}
 use Rattle.disk_buffer.specs.declared.pin_row.PinRow.{PinRow}
 use Rattle.disk_buffer.specs.PinRows.{TellsPin, end_in, later_end, pin_before, pin_of, pins_of}
 use Rattle.disk_buffer.specs.Laws.{pins_one_way, pins_split}
@@ -112,45 +112,60 @@ like_owner r x e = is_same _ _ (both_parts _ _ (sym (like_pin r x) ∙ e)).1
 
 -- ---- a pin that is set
 
-front_step : (x y z : PinRow) (zs : List PinRow) → IsSorted pin_before (z ∷ zs)
-    → (first_like pin_before x zs ≡ Some y → (is_like pin_before x y ≡ true) × TellSamePins (pin_of y ∷ pins_of (unlike pin_before x zs)) (pins_of zs))
-    → (c : Bool) → is_like pin_before x z ≡ c → first_of (if c then z ∷ filter (is_like pin_before x) zs else filter (is_like pin_before x) zs) ≡ Some y
-    → (is_like pin_before x y ≡ true) × TellSamePins (pin_of y ∷ pins_of (if not c then z ∷ unlike pin_before x zs else unlike pin_before x zs)) (pins_of (z ∷ zs))
-front_step x y z zs s below true e h =
-    let same : z ≡ y = cc in (
-      ap (is_like pin_before x) (sym same) ∙ e,
-      same_as (pin_of y ∷ pins_of (unlike pin_before x zs)) (pins_of (z ∷ zs)) (λ i. pin_of (sym same i) ∷ pins_of (unlike_first pin_order x z zs e s.0 i)),
-    )
-front_step x y z zs s below false e h =
-    let q = below h in (
-      q.0,
-      same_then (pin_of y ∷ pin_of z ∷ pins_of (unlike pin_before x zs)) (pin_of z ∷ pin_of y ∷ pins_of (unlike pin_before x zs)) (pins_of (z ∷ zs)) (same_swapped (pin_of y) (pin_of z) (pins_of (unlike pin_before x zs)))
-          (same_behind (pin_of z) (pin_of y ∷ pins_of (unlike pin_before x zs)) (pins_of zs) q.1),
-    )
+-- a row that is put in the place of its only like
+replaced_first : (x y : PinRow) (zs : List PinRow) → is_like pin_before x y ≡ true → GoesFirst pin_before y zs → replaced pin_before x zs ≡ zs
+replaced_first x y [] l g = refl
+replaced_first x y (z ∷ zs) l g = (λ i. unpicked (is_like pin_before x z) (high_not_like pin_order x y z l g.0) x z i ∷ replaced_first x y zs l g.1 i)
 
--- a pin that is found tells in front what it tells at its place
-same_front : (x y : PinRow) (rs : List PinRow) → IsSorted pin_before rs → first_like pin_before x rs ≡ Some y → (is_like pin_before x y ≡ true) × TellSamePins (pin_of y ∷ pins_of (unlike pin_before x rs)) (pins_of rs)
-same_front x y [] s h = absurd (cc)
-same_front x y (z ∷ zs) s h = front_step x y z zs s (same_front x y zs s.1) (is_like pin_before x z) refl h
+-- a row with the later end of two tells them both, the one that it replaces and another one in front
+same_later : (r y : PinRow) (u : ℕ) (zs : List PinRow) → is_like pin_before r y ≡ true → r.until ≡ max y.until u → TellSamePins (pin_of r ∷ pins_of zs) (record { file = r.file; owner = r.owner; until = u } ∷ pin_of y ∷ pins_of zs)
+same_later r y u zs l e =
+    let rest = pins_of zs in
+    let new : HeldPin = record { file = r.file; owner = r.owner; until = u } in
+    let old : HeldPin = record { file = r.file; owner = r.owner; until = y.until } in
+    let both : HeldPin = record { file = r.file; owner = r.owner; until = max y.until u } in
+    let later : pin_of r ≡ both = (λ i. record { file = r.file; owner = r.owner; until = e i }) in
+    let was : old ≡ pin_of y = (λ i. record { file = sym (like_file r y l) i; owner = sym (like_owner r y l) i; until = y.until }) in
+    same_then (pin_of r ∷ rest) (both ∷ rest) (new ∷ pin_of y ∷ rest) (same_as _ _ (ap (λ p. p ∷ rest) later))
+    (same_then (both ∷ rest) (new ∷ old ∷ rest) (new ∷ pin_of y ∷ rest) (same_merged r.file r.owner y.until u rest) (same_as _ _ (ap (λ p. new ∷ p ∷ rest) was)))
 
-none_front : (x : PinRow) (rs : List PinRow) → None ≡ first_like pin_before x rs → unlike pin_before x rs ≡ rs
-none_front x [] h = refl
-none_front x (z ∷ zs) h =
-    elim (is_like pin_before x z) as (λ c. None ≡ first_of (if c then z ∷ filter (is_like pin_before x) zs else filter (is_like pin_before x) zs) → (if not c then z ∷ unlike pin_before x zs else unlike pin_before x zs) ≡ z ∷ zs)
-    [ true ↦ λ k. absurd (cc) | false ↦ λ k. ap (λ l. z ∷ l) (none_front x zs k) ] h
+-- a pin whose end is put off to the later one, among pins in order
+same_replaced : (r y : PinRow) (u : ℕ) (rs : List PinRow) → IsSorted pin_before rs → first_like pin_before r rs ≡ Some y → r.until ≡ max y.until u
+    → TellSamePins (pins_of (replaced pin_before r rs)) (record { file = r.file; owner = r.owner; until = u } ∷ pins_of rs)
+same_replaced r y u [] s h e = absurd (cc)
+same_replaced r y u (z ∷ zs) s h e = step (is_like pin_before r z) refl h (λ k. same_replaced r y u zs s.1 k e)
+  where
+    step : (c : Bool) → is_like pin_before r z ≡ c → first_of (if c then z ∷ filter (is_like pin_before r) zs else filter (is_like pin_before r) zs) ≡ Some y
+        → (first_like pin_before r zs ≡ Some y → TellSamePins (pins_of (replaced pin_before r zs)) (record { file = r.file; owner = r.owner; until = u } ∷ pins_of zs))
+        → TellSamePins (pins_of ((if c then r else z) ∷ replaced pin_before r zs)) (record { file = r.file; owner = r.owner; until = u } ∷ pin_of z ∷ pins_of zs)
+    step true l k below =
+        let same : z ≡ y = cc in
+        let end : r.until ≡ max z.until u = e ∙ ap (λ (q : PinRow). max q.until u) (sym same) in
+        same_then (pin_of r ∷ pins_of (replaced pin_before r zs)) (pin_of r ∷ pins_of zs) _ (same_as _ _ (ap (λ l. pin_of r ∷ pins_of l) (replaced_first r z zs l s.0))) (same_later r z u zs l end)
+    step false l k below =
+        let new : HeldPin = record { file = r.file; owner = r.owner; until = u } in
+        same_then (pin_of z ∷ pins_of (replaced pin_before r zs)) (pin_of z ∷ new ∷ pins_of zs) (new ∷ pin_of z ∷ pins_of zs) (same_behind (pin_of z) (pins_of (replaced pin_before r zs)) (new ∷ pins_of zs) (below k)) (same_swapped (pin_of z) new (pins_of zs))
 
--- the rows behind a pin that is set
-set_row : (rs : List PinRow) (x : PinRow) (found : Option PinRow) (u : ℕ) → IsSorted pin_before rs → found ≡ first_like pin_before x rs
-    → TellSamePins (record { file = x.file; owner = x.owner; until = later_end found u } ∷ pins_of (unlike pin_before x rs)) (record { file = x.file; owner = x.owner; until = u } ∷ pins_of rs)
-set_row rs x None u s h = same_as _ _ (ap (λ l. record { file = x.file; owner = x.owner; until = u } ∷ pins_of l) (none_front x rs h))
-set_row rs x (Some y) u s h =
-    let q = same_front x y rs s (sym h) in
-    let rest = pins_of (unlike pin_before x rs) in
-    let new : HeldPin = record { file = x.file; owner = x.owner; until = u } in
-    let old : HeldPin = record { file = x.file; owner = x.owner; until = y.until } in
-    let is : old ≡ pin_of y = (λ i. record { file = sym (like_file x y q.0) i; owner = sym (like_owner x y q.0) i; until = y.until }) in
-    same_then (record { file = x.file; owner = x.owner; until = max y.until u } ∷ rest) (new ∷ old ∷ rest) (new ∷ pins_of rs) (same_merged x.file x.owner y.until u rest)
-    (same_behind new (old ∷ rest) (pins_of rs) (same_then (old ∷ rest) (pin_of y ∷ rest) (pins_of rs) (same_as _ _ (ap (λ p. p ∷ rest) is)) q.1))
+-- pins of one file and owner have the same likes
+abbrev pub AreOne : PinRow → PinRow → Type 0
+AreOne x r = (r.file ≡ x.file) × (r.owner ≡ x.owner)
+
+pub one_pin : (x : PinRow) (m g h o : ℕ) → x ≡ record { until = 0; file = g; owner = o } → h ≡ g → AreOne x (record { until = m; file = h; owner = o })
+one_pin x m g h o e k = (k ∙ sym (ap (λ (q : PinRow). q.file) e), sym (ap (λ (q : PinRow). q.owner) e))
+
+same_test : (x r z : PinRow) → AreOne x r → is_like pin_before r z ≡ is_like pin_before x z
+same_test x r z e = like_pin r z ∙ (λ i. (z.file == e.0 i) && (z.owner == e.1 i)) ∙ sym (like_pin x z)
+
+pub same_has : (x r : PinRow) (rs : List PinRow) → AreOne x r → has_like pin_before r rs ≡ has_like pin_before x rs
+same_has x r [] e = refl
+same_has x r (z ∷ zs) e = (λ i. same_test x r z e i || same_has x r zs e i)
+
+same_filter : {T : Type 0} (p q : T → Bool) (xs : List T) → ((x : T) → p x ≡ q x) → filter p xs ≡ filter q xs
+same_filter p q [] h = refl
+same_filter p q (x ∷ xs) h = (λ i. if h x i then x ∷ same_filter p q xs h i else same_filter p q xs h i)
+
+same_like : (x r : PinRow) (rs : List PinRow) → AreOne x r → first_like pin_before r rs ≡ first_like pin_before x rs
+same_like x r rs e = ap first_of (same_filter (is_like pin_before r) (is_like pin_before x) rs (λ z. same_test x r z e))
 
 -- ---- the one tree
 
@@ -160,20 +175,26 @@ one_tree trees one = omega arith
 pub first_set : {T : Type 0} (trees now : List (List T)) (xs : List T) → length trees ≡ 1 → now ≡ set trees 0 xs → items_in now 0 ≡ xs
 first_set trees now xs one e = ap (λ t. items_in t 0) e ∙ set_here trees 0 xs [] (one_tree trees one)
 
-pub set_tells : (trees mid now : List (List PinRow)) (v : List HeldPin) (f o u : ℕ) (x r : PinRow) (found : Option PinRow) → pins_of (items_in trees 0) ≡ v → length trees ≡ 1 → length mid ≡ 1
-    → x ≡ record { until = 0; file = f; owner = o } → r ≡ record { until = later_end found u; file = f; owner = o } → IsSorted pin_before (items_in trees 0)
-    → found ≡ first_like pin_before x (items_in trees 0) → mid ≡ set trees 0 (unlike pin_before x (items_in trees 0)) → now ≡ set mid 0 (inserted pin_before r (items_in mid 0))
+-- a pin that is set where its owner has none
+pub set_new : (trees now : List (List PinRow)) (v : List HeldPin) (f o u : ℕ) (r : PinRow) (found : Option PinRow) → is_some found ≡ false → pins_of (items_in trees 0) ≡ v → length trees ≡ 1
+    → r ≡ record { until = later_end found u; file = f; owner = o } → now ≡ set trees 0 (inserted pin_before r (items_in trees 0))
     → TellSamePins (pins_of (items_in now 0)) (record { file = f; owner = o; until = u } ∷ v)
-set_tells trees mid now v f o u x r found e one two ex er s told was is =
+set_new trees now v f o u r None n e one er is =
     let rs = items_in trees 0 in
-    let rest = unlike pin_before x rs in
-    let at : items_in now 0 ≡ inserted pin_before r rest = first_set mid now (inserted pin_before r (items_in mid 0)) two is ∙ ap (inserted pin_before r) (first_set trees mid rest one was) in
-    let pin : pin_of r ≡ record { file = x.file; owner = x.owner; until = later_end found u } = (λ i. record { file = (ap (λ (q : PinRow). q.file) er ∙ sym (ap (λ (q : PinRow). q.file) ex)) i; owner = (ap (λ (q : PinRow). q.owner) er ∙ sym (ap (λ (q : PinRow). q.owner) ex)) i; until = ap (λ (q : PinRow). q.until) er i }) in
-    let last : ◌≡◌ {A = List HeldPin} (record { file = x.file; owner = x.owner; until = u } ∷ pins_of rs) (record { file = f; owner = o; until = u } ∷ v) = (λ i. record { file = (ex i).file; owner = (ex i).owner; until = u } ∷ e i) in
-    same_then (pins_of (items_in now 0)) (pins_of (inserted pin_before r rest)) _ (same_as _ _ (ap pins_of at))
-    (same_then (pins_of (inserted pin_before r rest)) (pin_of r ∷ pins_of rest) _ (same_inserted r rest)
-    (same_then (pin_of r ∷ pins_of rest) (record { file = x.file; owner = x.owner; until = later_end found u } ∷ pins_of rest) _ (same_as _ _ (ap (λ p. p ∷ pins_of rest) pin))
-    (same_then (record { file = x.file; owner = x.owner; until = later_end found u } ∷ pins_of rest) (record { file = x.file; owner = x.owner; until = u } ∷ pins_of rs) _ (set_row rs x found u s told) (same_as _ _ last))))
+    same_then (pins_of (items_in now 0)) (pins_of (inserted pin_before r rs)) _ (same_as _ _ (ap pins_of (first_set trees now (inserted pin_before r rs) one is)))
+    (same_then (pins_of (inserted pin_before r rs)) (pin_of r ∷ pins_of rs) _ (same_inserted r rs) (same_as _ _ (λ i. pin_of (er i) ∷ e i)))
+set_new trees now v f o u r (Some y) n e one er is = absurd (cc)
+
+-- a pin that is set where its owner has one
+pub set_again : (trees now : List (List PinRow)) (v : List HeldPin) (f o u : ℕ) (x r : PinRow) (found : Option PinRow) → is_some found ≡ true → pins_of (items_in trees 0) ≡ v → length trees ≡ 1
+    → AreOne x r → r ≡ record { until = later_end found u; file = f; owner = o } → IsSorted pin_before (items_in trees 0) → found ≡ first_like pin_before x (items_in trees 0) → now ≡ set trees 0 (replaced pin_before r (items_in trees 0))
+    → TellSamePins (pins_of (items_in now 0)) (record { file = f; owner = o; until = u } ∷ v)
+set_again trees now v f o u x r None n e one a er s told is = absurd (cc)
+set_again trees now v f o u x r (Some y) n e one a er s told is =
+    let rs = items_in trees 0 in
+    same_then (pins_of (items_in now 0)) (pins_of (replaced pin_before r rs)) _ (same_as _ _ (ap pins_of (first_set trees now (replaced pin_before r rs) one is)))
+    (same_then (pins_of (replaced pin_before r rs)) (record { file = r.file; owner = r.owner; until = u } ∷ pins_of rs) _ (same_replaced r y u rs s (same_like x r rs a ∙ sym told) (ap (λ (q : PinRow). q.until) er))
+    (same_as _ _ (λ i. record { file = (er i).file; owner = (er i).owner; until = u } ∷ e i)))
 
 -- ---- pins that leave
 
@@ -199,10 +220,6 @@ unset_is trees now v f o x e one ex is =
 
 in_file : (a f o : ℕ) → (not (nat_lt a f || (a == f && nat_lt o 0)) && (nat_lt a (f + 1) || (a == (f + 1) && nat_lt o 0))) ≡ (a == f)
 in_file a f o = grind arith
-
-same_filter : {T : Type 0} (p q : T → Bool) (xs : List T) → ((x : T) → p x ≡ q x) → filter p xs ≡ filter q xs
-same_filter p q [] h = refl
-same_filter p q (x ∷ xs) h = (λ i. if h x i then x ∷ same_filter p q xs h i else same_filter p q xs h i)
 
 abbrev pub ends : Sums PinRow ℕ
 ends = record { own = λ (p : PinRow). p.until; joined = max }
@@ -351,22 +368,6 @@ row_is m g f o h = (λ i. record { until = m; file = h i; owner = o })
 
 pub set_row_is : (m n g f o : ℕ) → m ≡ n → g ≡ f → ◌≡◌ {A = PinRow} (record { until = m; file = g; owner = o }) (record { until = n; file = f; owner = o })
 set_row_is m n g f o e h = (λ i. record { until = e i; file = h i; owner = o })
-
--- the row that is set has no like where its like was taken out
-pub can_set : (trees mid : List (List PinRow)) (f o : ℕ) (x r : PinRow) → length trees ≡ 1 → x.file ≡ r.file → x.owner ≡ r.owner → mid ≡ set trees 0 (unlike pin_before x (items_in trees 0)) → has_like pin_before r (items_in mid 0) ≡ false
-can_set trees mid f o x r one ef eo is =
-    ap (has_like pin_before r) (first_set trees mid (unlike pin_before x (items_in trees 0)) one is) ∙ same_gone x r ef eo (items_in trees 0)
-  where
-    same_test : (x r z : PinRow) → x.file ≡ r.file → x.owner ≡ r.owner → is_like pin_before r z ≡ is_like pin_before x z
-    same_test x r z ef eo = like_pin r z ∙ (λ i. (z.file == sym ef i) && (z.owner == sym eo i)) ∙ sym (like_pin x z)
-
-    gone_one : (x r z : PinRow) (us : List PinRow) (c : Bool) → is_like pin_before x z ≡ c → is_like pin_before r z ≡ is_like pin_before x z → has_like pin_before r us ≡ false → has_like pin_before r (if not c then z ∷ us else us) ≡ false
-    gone_one x r z us true e s h = h
-    gone_one x r z us false e s h = (λ i. (s ∙ e) i || h i)
-
-    same_gone : (x r : PinRow) → x.file ≡ r.file → x.owner ≡ r.owner → (rs : List PinRow) → has_like pin_before r (unlike pin_before x rs) ≡ false
-    same_gone x r ef eo [] = refl
-    same_gone x r ef eo (z ∷ zs) = gone_one x r z (unlike pin_before x zs) (is_like pin_before x z) refl (same_test x r z ef eo) (same_gone x r ef eo zs)
 
 pub set_length_one : {T : Type 0} (trees now : List (List T)) (xs : List T) → length trees ≡ 1 → now ≡ set trees 0 xs → length now ≡ 1
 set_length_one trees now xs one e = ap length e ∙ set_length trees 0 xs ∙ one

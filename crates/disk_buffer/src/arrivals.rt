@@ -255,6 +255,10 @@ impl Arrivals {
         let Some(row) = row_of(&self.forest, &self.kept, file) else {
             return;
         };
+        // Replacing the row by itself would only walk the tree again.
+        if row.until == until {
+            return;
+        }
         self.forest.replace(0, ended(row, until, self.clock));
     }
 
@@ -267,6 +271,10 @@ impl Arrivals {
         let Some(row) = row_of(&self.forest, &self.kept, file) else {
             return;
         };
+        // Replacing the row by itself would only walk the tree again.
+        if row.safe == safe {
+            return;
+        }
         self.forest.replace(0, flagged(row, safe, self.clock));
     }
 

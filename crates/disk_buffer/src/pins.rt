@@ -108,15 +108,17 @@ impl Pins {
     {
         let like = pin_like(file.into(), owner);
         let found = self.forest.get(0, like);
-        let _was = self.forest.take(0, like);
-        self.forest.insert(
-            0,
-            PinRow {
-                until: later_end(found, until),
-                file: file.into(),
-                owner,
-            },
-        );
+        let row = PinRow {
+            until: later_end(found, until),
+            file: file.into(),
+            owner,
+        };
+        // A pin changes in its place, so the tree keeps its shape and is not balanced anew.
+        if found.is_some() {
+            self.forest.replace(0, row);
+            return;
+        }
+        self.forest.insert(0, row);
     }
 
     // An owner pins a file no more.

@@ -56,7 +56,7 @@ use Rattle.kept_parts.specs.Kept.{ArePartsKept, values_of}
 use Rattle.kept_parts.specs.declared.parts.KeptParts.{KeptParts}
 use Rattle.read_calls.specs.Reading.{all_targets, born_of, pins_by}
 use Rattle.read_calls.specs.Waiting.{with_file}
-use Rattle.read_calls.proofs.ArrivalPins.{pin_both}
+use Rattle.read_calls.proofs.ArrivalPins.{entered_pinned}
 use Rattle.read_calls.proofs.CompletedFiles.{completed_are}
 use Rattle.read_calls.proofs.GivenReads.{same_table}
 use Rattle.read_calls.proofs.MarkedItems.{marked_are}
@@ -67,7 +67,7 @@ abbrev pub done_entry : History → ℕ → ℕ → Job → Entry
 done_entry h t m job = new_entry h t (ask.Recalled m job) (answer.Arrived fate.Done)
 
 -- what is known of a Recalled of a live recall, and what was done to the parts, where b is the book with the claim and the recall ended
--- and c the buffer with the file
+-- and c the buffer with the pins
 pub record IsDone (site : Site) (h : History) (t m : ℕ) (job : Job) (p : KeptParts) (at n copies len : ℕ) (ids born : List ℕ) (sum : Sum256) (safe : Bool) (requests : Requests) (repacks : Kept) (given ended book : Roomed JobRows) (pools : Roomed Queues) (c buffer : Stored) : Type 0 where
   pub legal : IsLegal site (done_entry h t m job ∷ h)
   pub kept : ArePartsKept site h p
@@ -90,10 +90,10 @@ pub record IsDone (site : Site) (h : History) (t m : ℕ) (job : Job) (p : KeptP
   pub lines : (k : ℕ) → lines_in pools.value k ≡ add_jobs site (done_entry h t m job ∷ h) direction.Archive (born_of n job.file born) (lines_in p.pools.value) k
   pub keys : length pools.value ≡ length p.pools.value
   pub flag : safe ≡ safe_in p.tapes.value (book_in book.value).archive job.file copies
-  pub entered : HeldAgree c.held.value (set_safe (enter (unhold p.buffer.held.value len) job.file len) job.file safe)
-  pub stored : (f : ℕ) → content_in c.contents f ≡ (if f == job.file then Some sum else content_in p.buffer.contents f)
-  pub pinned : HeldAgree buffer.held.value (pin_all (flat_map (pins_by requests (repacks_of repacks) job.file) ids) c.held.value)
-  pub still : buffer.contents ≡ c.contents
+  pub pinned : HeldAgree c.held.value (pin_all (flat_map (pins_by requests (repacks_of repacks) job.file) ids) p.buffer.held.value)
+  pub still : c.contents ≡ p.buffer.contents
+  pub entered : HeldAgree buffer.held.value (set_safe (enter (unhold c.held.value len) job.file len) job.file safe)
+  pub stored : (f : ℕ) → content_in buffer.contents f ≡ (if f == job.file then Some sum else content_in c.contents f)
 
 module _ (site : Site) (h : History) (t m : ℕ) (job : Job) (p : KeptParts) (at n copies len : ℕ) (ids born : List ℕ) (sum : Sum256) (safe : Bool) (requests : Requests) (repacks : Kept) (given ended book : Roomed JobRows) (pools : Roomed Queues) (c buffer : Stored) (x : IsDone site h t m job p at n copies len ids born sum safe requests repacks given ended book pools c buffer) where
   -- ---- requests and repacks
@@ -198,12 +198,12 @@ module _ (site : Site) (h : History) (t m : ℕ) (job : Job) (p : KeptParts) (at
   held_is : HeldAgree buffer.held.value (after_read site h (done_entry h t m job) job.file p.buffer.held.value)
   held_is =
       subst (λ (ps : List HeldPin). HeldAgree buffer.held.value (pin_all ps (set_safe (enter (unhold p.buffer.held.value (size_of h job.file)) job.file (size_of h job.file)) job.file (is_safe site (done_entry h t m job ∷ h) job.file)))) pins_same
-      (pin_both [] (flat_map (pins_by requests (repacks_of repacks) job.file) ids) (set_safe (enter (unhold p.buffer.held.value (size_of h job.file)) job.file (size_of h job.file)) job.file (is_safe site (done_entry h t m job ∷ h) job.file)) c.held.value buffer.held.value
-      (subst (λ (b : Bool). HeldAgree c.held.value (set_safe (enter (unhold p.buffer.held.value (size_of h job.file)) job.file (size_of h job.file)) job.file b)) safe_is
-      (subst (λ (k : ℕ). HeldAgree c.held.value (set_safe (enter (unhold p.buffer.held.value k) job.file k) job.file safe)) size_is x.entered)) x.pinned)
+      (entered_pinned (flat_map (pins_by requests (repacks_of repacks) job.file) ids) job.file (size_of h job.file) (is_safe site (done_entry h t m job ∷ h) job.file) p.buffer.held.value c.held.value buffer.held.value x.pinned
+      (subst (λ (b : Bool). HeldAgree buffer.held.value (set_safe (enter (unhold c.held.value (size_of h job.file)) job.file (size_of h job.file)) job.file b)) safe_is
+      (subst (λ (k : ℕ). HeldAgree buffer.held.value (set_safe (enter (unhold c.held.value k) job.file k) job.file safe)) size_is x.entered)))
 
   contents_are : (f : ℕ) → content_in buffer.contents f ≡ (if has_number f (job.file ∷ []) then Some (files.sum_of (done_entry h t m job ∷ h) f) else content_in p.buffer.contents f)
-  contents_are f = ap (λ (cs : List (ℕ × Sum256)). content_in cs f) x.still ∙ x.stored f ∙ by (f == job.file) refl
+  contents_are f = x.stored f ∙ ap (λ (cs : List (ℕ × Sum256)). if f == job.file then Some sum else content_in cs f) x.still ∙ by (f == job.file) refl
     where
       by : (b : Bool) → (f == job.file) ≡ b → ◌≡◌ {A = Option Sum256} (if b then Some sum else content_in p.buffer.contents f) (if b || false then Some (files.sum_of (done_entry h t m job ∷ h) f) else content_in p.buffer.contents f)
       by true hit = ap (λ (s : Sum256). Some s) (x.content ∙ sym (sum_older (done_entry h t m job) h job.file x.low) ∙ ap (files.sum_of (done_entry h t m job ∷ h)) (sym (eqb-true f job.file hit)))

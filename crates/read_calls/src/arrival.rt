@@ -55,7 +55,7 @@ fn pin_repack(buffer: &mut DiskBuffer, repacks: &RepackBook, id: u32, file: u32)
     buffer.pin(file, id, u64::MAX);
 }
 
-// Each of these requests and repacks pins a file where it does so by its book.
+// Each of these requests and repacks pins a file where it does so by its book, which the file need not be there for.
 pub(crate) fn pin_all_of(
     buffer: &mut DiskBuffer,
     requests: &StageBook,
@@ -66,6 +66,7 @@ pub(crate) fn pin_all_of(
     requires { 2 * length ids.now ≤ buffer.old.held.room }
     ensures held { HeldAgree buffer.new.held.value (pin_all (flat_map (pins_by requests.now (repacks_of repacks.now) file) ids.now) buffer.old.held.value) }
     ensures contents { buffer.new.contents ≡ buffer.old.contents }
+    ensures room { buffer.old.held.room ≤ buffer.new.held.room + 2 * length ids.now }
 {
     for id in ids {
         pin_request(buffer, requests, *id, file);

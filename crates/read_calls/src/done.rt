@@ -121,7 +121,7 @@ fn settle_read(
     queue_all(site, history, &mut parts.pools, number, job.file, born);
     let safe = is_safe(&parts.tapes, &parts.book, job.file, found.copies);
     let len = blob.sum().len;
-    bring_in(&mut parts.buffer, job.file, blob, len, safe);
+    // The pins come first: then the file enters with their end, and its place in the buffer is not written again for each.
     pin_all_of(
         &mut parts.buffer,
         &parts.requests,
@@ -129,6 +129,7 @@ fn settle_read(
         ids,
         job.file,
     );
+    bring_in(&mut parts.buffer, job.file, blob, len, safe);
 }
 
 // What the parts are to have room for.

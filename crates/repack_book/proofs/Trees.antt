@@ -6,7 +6,7 @@ use Rattle.std.proofs.Math.ListN.{set}
 use Rattle.std.proofs.lemmas.Bool.{eqb-true, eq-eqb}
 use Rattle.cta_model.specs.Mounts.{same_job}
 use Rattle.part_values.specs.Order.{goes_before}
-use Rattle.sum_trees.specs.Order.{GoesFirst, IsSorted, inserted, unlike, is_like, first_of, first_after, first_from}
+use Rattle.sum_trees.specs.Order.{GoesFirst, IsSorted, inserted, unlike, is_like, has_like, first_of, first_after, first_from}
 use Rattle.sum_trees.specs.Forests.{items_in}
 use Rattle.sum_trees.proofs.Stands.{set_here}
 use Rattle.job_queues.specs.Laws.{way, Below, Level, Above, before_one_way}
@@ -32,6 +32,19 @@ any_inserted b p x [] = refl
 any_inserted b p x (y ∷ ys) =
     elim (b x y) as (λ c. list_any p (if c then x ∷ y ∷ ys else y ∷ inserted b x ys) ≡ (p x || (p y || list_any p ys)))
     [ true ↦ refl | false ↦ ap (λ t. p y || t) (any_inserted b p x ys) ∙ swap (p y) (p x) (list_any p ys) ]
+
+twice : (a c : Bool) → (a || c) ≡ (a || (a || c))
+twice true c = refl
+twice false c = refl
+
+-- an item that is there already adds nothing
+any_there : {T : Type 0} (b : T → T → Bool) (p : T → Bool) (x : T) → ((y : T) → is_like b x y ≡ true → x ≡ y) → (ys : List T) → has_like b x ys ≡ true → list_any p ys ≡ (p x || list_any p ys)
+any_there b p x alike [] h = absurd (clash h refl)
+any_there b p x alike (y ∷ ys) h = step (is_like b x y) (has_like b x ys) (list_any p ys) (alike y) (any_there b p x alike ys) h
+  where
+    step : (l k r : Bool) → (l ≡ true → x ≡ y) → (k ≡ true → r ≡ (p x || r)) → (l || k) ≡ true → (p y || r) ≡ (p x || (p y || r))
+    step true k r same ih h = ap (λ a. a || r) (ap p (sym (same refl))) ∙ twice (p x) r ∙ ap (λ a. p x || (a || r)) (ap p (same refl))
+    step false k r same ih h = ap (λ a. p y || a) (ih h) ∙ swap (p y) (p x) r
 
 unlike_step : {T : Type 0} (p : T → Bool) (x y : T) (us ys : List T) (l px py : Bool) → p y ≡ py → (l ≡ true → py ≡ px) → (px ≡ true → py ≡ true → l ≡ true) → list_any p us ≡ (not px && list_any p ys)
     → list_any p (if not l then y ∷ us else us) ≡ (not px && (py || list_any p ys))
@@ -207,10 +220,6 @@ item_single t r f c x y e g =
     (let same : x ≡ y = sym (item_is t r f c x e) ∙ item_is t r f c y g in
     subst (λ (z : LiveItem). is_like item_before x z ≡ true) same (like_itself item_before item_one_way x))
 
-again : (a c : Bool) → (a || (not a && c)) ≡ (a || c)
-again true c = refl
-again false c = refl
-
 one_tree : {T : Type 0} (trees now : List (List T)) (ys : List T) → length trees ≡ 1 → now ≡ set trees 0 ys → items_in now 0 ≡ ys
 one_tree trees now ys one e = ap (λ l. items_in l 0) e ∙ set_here trees 0 ys [] (omega arith)
 
@@ -219,11 +228,12 @@ pub item_taken : (trees now : List (List LiveItem)) (x : LiveItem) → length tr
 item_taken trees now x one e t r f c =
     ap (list_any (is_item t r f c)) (one_tree trees now _ one e) ∙ any_unlike item_before (is_item t r f c) x (item_alike x) (item_single t r f c x) (items_in trees 0)
 
-pub item_added : (trees mid now : List (List LiveItem)) (x : LiveItem) → length trees ≡ 1 → length mid ≡ 1 → mid ≡ set trees 0 (unlike item_before x (items_in trees 0)) → now ≡ set mid 0 (inserted item_before x (items_in mid 0))
+pub item_added : (trees now : List (List LiveItem)) (x : LiveItem) → length trees ≡ 1 → now ≡ set trees 0 (inserted item_before x (items_in trees 0))
     → (t r f c : ℕ) → has_item (items_in now 0) t r f c ≡ (is_item t r f c x || has_item (items_in trees 0) t r f c)
-item_added trees mid now x one too e g t r f c =
-    ap (list_any (is_item t r f c)) (one_tree mid now _ too g) ∙ any_inserted item_before (is_item t r f c) x (items_in mid 0)
-    ∙ ap (λ b. is_item t r f c x || b) (item_taken trees mid x one e t r f c) ∙ again (is_item t r f c x) (has_item (items_in trees 0) t r f c)
+item_added trees now x one e t r f c = ap (list_any (is_item t r f c)) (one_tree trees now _ one e) ∙ any_inserted item_before (is_item t r f c) x (items_in trees 0)
+
+pub item_there : (xs : List LiveItem) (x : LiveItem) → has_like item_before x xs ≡ true → (t r f c : ℕ) → has_item xs t r f c ≡ (is_item t r f c x || has_item xs t r f c)
+item_there xs x h t r f c = any_there item_before (is_item t r f c) x (item_alike x) xs h
 
 -- ---- the first item of a tape
 
@@ -308,11 +318,12 @@ pub holder_taken : (trees now : List (List Holder)) (x : Holder) → length tree
 holder_taken trees now x one e f c r =
     ap (list_any (is_holder f c r)) (one_tree trees now _ one e) ∙ any_unlike holder_before (is_holder f c r) x (holder_alike x) (holder_single f c r x) (items_in trees 0)
 
-pub holder_added : (trees mid now : List (List Holder)) (x : Holder) → length trees ≡ 1 → length mid ≡ 1 → mid ≡ set trees 0 (unlike holder_before x (items_in trees 0)) → now ≡ set mid 0 (inserted holder_before x (items_in mid 0))
+pub holder_added : (trees now : List (List Holder)) (x : Holder) → length trees ≡ 1 → now ≡ set trees 0 (inserted holder_before x (items_in trees 0))
     → (f c r : ℕ) → has_holder (items_in now 0) f c r ≡ (is_holder f c r x || has_holder (items_in trees 0) f c r)
-holder_added trees mid now x one too e g f c r =
-    ap (list_any (is_holder f c r)) (one_tree mid now _ too g) ∙ any_inserted holder_before (is_holder f c r) x (items_in mid 0)
-    ∙ ap (λ b. is_holder f c r x || b) (holder_taken trees mid x one e f c r) ∙ again (is_holder f c r x) (has_holder (items_in trees 0) f c r)
+holder_added trees now x one e f c r = ap (list_any (is_holder f c r)) (one_tree trees now _ one e) ∙ any_inserted holder_before (is_holder f c r) x (items_in trees 0)
+
+pub holder_there : (xs : List Holder) (x : Holder) → has_like holder_before x xs ≡ true → (f c r : ℕ) → has_holder xs f c r ≡ (is_holder f c r x || has_holder xs f c r)
+holder_there xs x h f c r = any_there holder_before (is_holder f c r) x (holder_alike x) xs h
 
 -- ---- the next holder of a copy
 

@@ -110,7 +110,9 @@ impl Holders {
         ensures holders { (f c r : ℕ) → has_holder self.new.value f c r ≡ (is_holder f c r holder || has_holder self.old.value f c r) }
         ensures room { self.old.room ≤ self.new.room + 1 }
     {
-        let _ = self.forest.take(0, holder);
+        if self.forest.get(0, holder).is_some() {
+            return;
+        }
         self.forest.insert(0, holder);
     }
 

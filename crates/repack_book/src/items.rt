@@ -112,7 +112,9 @@ impl LiveItems {
         ensures items { (t r f c : ℕ) → has_item self.new.value t r f c ≡ (is_item t r f c item || has_item self.old.value t r f c) }
         ensures room { self.old.room ≤ self.new.room + 1 }
     {
-        let _ = self.forest.take(0, item);
+        if self.forest.get(0, item).is_some() {
+            return;
+        }
         self.forest.insert(0, item);
     }
 

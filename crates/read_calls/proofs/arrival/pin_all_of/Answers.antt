@@ -5,7 +5,7 @@ use Rattle.read_calls.proofs.ArrivalPins.{pinned_more, same_held}
 use Rattle.read_calls.proofs.arrival.pin_all_of.Goals as goal
 
 pub loop-id-init : goal.loop-id-init
-loop-id-init c = record { held = same_held c.args.buffer.now.held.value; contents = refl; room = (let room = c.requires in omega arith) }
+loop-id-init c = record { held = same_held c.args.buffer.now.held.value; contents = refl; room = omega arith }
 
 pub loop-id-preserved : goal.loop-id-preserved
 loop-id-preserved c = record {

@@ -1,5 +1,5 @@
--- The requests and repacks that the loop has passed pin the file where they do so by their books, and there is room for the others.
-use Rattle.std.proofs.Common.{◌≡◌, ◌+◌, ◌*◌, ◌≤◌, length, take}
+-- The requests and repacks that the loop has passed pin the file where they do so by their books, and each took two places at most.
+use Rattle.std.proofs.Common.{◌≡◌, ◌+◌, ◌*◌, ◌≤◌, take}
 use Rattle.std.specs.List.{flat_map}
 use Rattle.part_values.specs.Held.{HeldAgree, pin_all}
 use Rattle.repack_book.specs.Kept.{repacks_of}
@@ -10,5 +10,5 @@ abbrev pub invariant-loop-id : goal.invariant-loop-id
 invariant-loop-id l = record {
   held : HeldAgree l.buffer.held.value (pin_all (flat_map (pins_by l.requests (repacks_of l.repacks) l.file) (take l.id-index l.ids)) l.initial.buffer.held.value);
   contents : l.buffer.contents ≡ l.initial.buffer.contents;
-  room : 2 * length l.ids ≤ l.buffer.held.room + 2 * l.id-index;
+  room : l.initial.buffer.held.room ≤ l.buffer.held.room + 2 * l.id-index;
 }

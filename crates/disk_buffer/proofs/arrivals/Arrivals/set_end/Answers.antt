@@ -3,12 +3,16 @@ use Rattle.sum_trees.specs.Forests.{items_in}
 use Rattle.disk_buffer.specs.Stays.{Arrived, ended, stays_of, with_end}
 use Rattle.disk_buffer.proofs.PinLists.{set_length_one}
 use Rattle.disk_buffer.proofs.Found.{told_row, told_no_row}
-use Rattle.disk_buffer.proofs.Changed.{absent_end, ended_keeps, ended_stays, kept_as, kept_touched, replaced_tree, touched}
+use Rattle.disk_buffer.proofs.Changed.{absent_end, ended_keeps, ended_stays, kept_as, kept_touched, replaced_tree, same_end, touched}
 use Rattle.disk_buffer.proofs.arrivals.Arrivals.set_end.Goals as goal
 
 pub returns-in_default-clause-stays : goal.returns-in_default-clause-stays
 returns-in_default-clause-stays c =
     absent_end c.args.file c.args.until (items_in c.self.inside.forest.trees 0) c.args.self.now.stays (ap (λ (v : Arrived). v.stays) c.self.view_is) (told_no_row c.args.file (items_in c.self.inside.forest.trees 0) c.row_of.result c.in_default.is c.row_of.ensures)
+
+pub returns-then-row-until-clause-stays : goal.returns-then-row-until-clause-stays
+returns-then-row-until-clause-stays c =
+    same_end c.args.file c.args.until c.in-Some.row (items_in c.self.inside.forest.trees 0) c.args.self.now.stays (ap (λ (v : Arrived). v.stays) c.self.view_is) (told_row c.args.file (items_in c.self.inside.forest.trees 0) c.row_of.result c.in-Some.row c.in-Some.is c.row_of.ensures).0 c.if-row-until.true
 
 pub invariant_of-self : goal.invariant_of-self
 invariant_of-self c = (

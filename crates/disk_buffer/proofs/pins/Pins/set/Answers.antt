@@ -1,19 +1,35 @@
 use Rattle.std.proofs.Common.{◌∙◌, sym, ap}
 use Rattle.part_values.specs.Room.{Roomed}
-use Rattle.disk_buffer.specs.declared.pin_row.PinRow.{PinRow}
-use Rattle.disk_buffer.proofs.PinLists.{can_set, set_length_one, set_row_is, like_is, set_tells}
+use Rattle.sum_trees.specs.Forests.{items_in}
+use Rattle.disk_buffer.proofs.PinLists.{one_pin, same_has, set_again, set_new, set_row_is}
 use Rattle.disk_buffer.proofs.pins.Pins.set.Goals as goal
+
+pub replace-requires-clause-there : goal.replace-requires-clause-there
+replace-requires-clause-there c =
+    same_has c.pin_like-like.result (record { until = c.later_end.result; file = c.into-2.result; owner = c.args.owner }) (items_in c.self.inside.forest.trees 0) (one_pin _ c.later_end.result _ _ _ c.pin_like-like.ensures (c.into-2.ensures ∙ sym c.into.ensures))
+    ∙ sym c.get-found.ensures.had ∙ sym c.is_some.ensures ∙ c.if-is_some.true
 
 pub insert-requires-clause-lacks : goal.insert-requires-clause-lacks
 insert-requires-clause-lacks c =
-    can_set c.self.inside.forest.trees c.take-was.new.self.trees c.args.file c.args.owner c.pin_like-like.result (record { until = c.later_end.result; file = c.into-2.result; owner = c.args.owner }) c.self.invariant (ap (λ (q : PinRow). q.file) c.pin_like-like.ensures ∙ c.into.ensures ∙ sym c.into-2.ensures) (ap (λ (q : PinRow). q.owner) c.pin_like-like.ensures) c.take-was.ensures.trees
+    same_has c.pin_like-like.result (record { until = c.later_end.result; file = c.into-2.result; owner = c.args.owner }) (items_in c.self.inside.forest.trees 0) (one_pin _ c.later_end.result _ _ _ c.pin_like-like.ensures (c.into-2.ensures ∙ sym c.into.ensures))
+    ∙ sym c.get-found.ensures.had ∙ sym c.is_some.ensures ∙ c.if-is_some.false
+
+pub returns-then-is_some-clause-pins : goal.returns-then-is_some-clause-pins
+returns-then-is_some-clause-pins c =
+    (set_again c.self.inside.forest.trees c.replace.new.self.trees c.args.self.now.value c.args.file c.args.owner c.args.until c.pin_like-like.result _ c.get-found.result (sym c.is_some.ensures ∙ c.if-is_some.true) (ap (λ (v : Roomed _). v.value) c.self.view_is) c.self.invariant
+    (one_pin _ c.later_end.result _ _ _ c.pin_like-like.ensures (c.into-2.ensures ∙ sym c.into.ensures)) (set_row_is _ _ _ _ _ c.later_end.ensures c.into-2.ensures) c.get-found.ensures.sorted c.get-found.ensures.like c.replace.ensures.trees).pins
+
+pub returns-then-is_some-clause-ends : goal.returns-then-is_some-clause-ends
+returns-then-is_some-clause-ends c =
+    (set_again c.self.inside.forest.trees c.replace.new.self.trees c.args.self.now.value c.args.file c.args.owner c.args.until c.pin_like-like.result _ c.get-found.result (sym c.is_some.ensures ∙ c.if-is_some.true) (ap (λ (v : Roomed _). v.value) c.self.view_is) c.self.invariant
+    (one_pin _ c.later_end.result _ _ _ c.pin_like-like.ensures (c.into-2.ensures ∙ sym c.into.ensures)) (set_row_is _ _ _ _ _ c.later_end.ensures c.into-2.ensures) c.get-found.ensures.sorted c.get-found.ensures.like c.replace.ensures.trees).ends
 
 pub returns-clause-pins : goal.returns-clause-pins
 returns-clause-pins c =
-    (set_tells c.self.inside.forest.trees c.take-was.new.self.trees c.insert.new.self.trees c.args.self.now.value c.args.file c.args.owner c.args.until c.pin_like-like.result _ c.get-found.result (ap (λ (v : Roomed _). v.value) c.self.view_is) c.self.invariant (set_length_one _ _ _ c.self.invariant c.take-was.ensures.trees)
-    (like_is _ _ _ _ c.pin_like-like.ensures c.into.ensures) (set_row_is _ _ _ _ _ c.later_end.ensures c.into-2.ensures) c.get-found.ensures.sorted c.get-found.ensures.like c.take-was.ensures.trees c.insert.ensures.trees).pins
+    (set_new c.self.inside.forest.trees c.insert.new.self.trees c.args.self.now.value c.args.file c.args.owner c.args.until _ c.get-found.result (sym c.is_some.ensures ∙ c.if-is_some.false) (ap (λ (v : Roomed _). v.value) c.self.view_is) c.self.invariant
+    (set_row_is _ _ _ _ _ c.later_end.ensures c.into-2.ensures) c.insert.ensures.trees).pins
 
 pub returns-clause-ends : goal.returns-clause-ends
 returns-clause-ends c =
-    (set_tells c.self.inside.forest.trees c.take-was.new.self.trees c.insert.new.self.trees c.args.self.now.value c.args.file c.args.owner c.args.until c.pin_like-like.result _ c.get-found.result (ap (λ (v : Roomed _). v.value) c.self.view_is) c.self.invariant (set_length_one _ _ _ c.self.invariant c.take-was.ensures.trees)
-    (like_is _ _ _ _ c.pin_like-like.ensures c.into.ensures) (set_row_is _ _ _ _ _ c.later_end.ensures c.into-2.ensures) c.get-found.ensures.sorted c.get-found.ensures.like c.take-was.ensures.trees c.insert.ensures.trees).ends
+    (set_new c.self.inside.forest.trees c.insert.new.self.trees c.args.self.now.value c.args.file c.args.owner c.args.until _ c.get-found.result (sym c.is_some.ensures ∙ c.if-is_some.false) (ap (λ (v : Roomed _). v.value) c.self.view_is) c.self.invariant
+    (set_row_is _ _ _ _ _ c.later_end.ensures c.into-2.ensures) c.insert.ensures.trees).ends
