@@ -1,2 +1,2 @@
-pub use Rattle.core_files.specs.Kept
+pub use Rattle.archive_answers.specs.Kept
 pub mod InOrder

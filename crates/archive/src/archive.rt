@@ -1,10 +1,10 @@
 // The archive.
 ghost use Rattle.std.specs.Prelude.{◌≡◌, [], IfOk};
 ghost use Rattle.cta_model.specs.Legal.{IsLegal};
-ghost use Rattle.core_files.specs.Kept.{AreFirstMedia, TapesHaveMedia};
+ghost use Rattle.archive_answers.specs.Kept.{AreFirstMedia, TapesHaveMedia};
 ghost use Rattle.history_laws.specs.Holding.{HoldsLaws};
 
-use core_files::KeptState;
+use archive_answers::KeptState;
 use cta_model::{NoMemory, Told};
 use cta_site::ValidSite;
 use history_laws::legal_histories_hold;

@@ -10,11 +10,11 @@ ghost use Rattle.cta_model.specs.Legal.{IsEndFault, IsFit, IsMount, IsMountOf, g
 ghost use Rattle.cta_model.specs.Mounts.{mount_of};
 
 use crate::archive::Archive;
+use archive_answers::{
+    KeptState, cancel, claim, delete, drive_down, drive_up, drop_request, end, failed, flushed,
+    next, put, recalled, reclaim, release, repack, retry, set_tape_state, stage,
+};
 use blob::Sum256;
-use core_admin::{drive_down, drive_up, reclaim, repack, retry, set_tape_state};
-use core_drive::{claim, end, failed, flushed, next, recalled};
-use core_files::{KeptState, delete, put};
-use core_stage::{cancel, drop_request, release, stage};
 use cta_model::{Answer, Ask, Fault, Hand, Job, NoMemory, Told, Who};
 use cta_site::Text;
 
@@ -95,8 +95,8 @@ impl<M: Told + Drop> Archive<M> {
     /// One that is refused changes nothing, and its hand comes back. After NoMemory nothing has changed, and the ask and the hand come back.
     ///
     /// A session asks only what a session may: a Next of a drive of the site, and all else of a mount of the history. Its cost is that of
-    /// the call of the core for the ask. None goes through the history or through all files; a TapeState and a Repack go through the
-    /// live copies on their tape.
+    /// the call of `archive_answers` for the ask. None goes through the history or through all files; a TapeState and a Repack go through
+    /// the live copies on their tape.
     pub fn ask(
         &mut self,
         at: u64,

@@ -7,6 +7,7 @@ mod drives;
 mod files;
 mod puts;
 
+pub use archive::Archive;
 pub use crew::{Put, Serves, both, one_then_other};
 pub use drives::{ask_next, own_mount_stays};
 pub use files::put_file;

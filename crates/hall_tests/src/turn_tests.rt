@@ -2,8 +2,7 @@
 ghost use Rattle.std.specs.Prelude.{◌≡◌, ◌+◌, ◌<◌, IfOk, IfSome, length};
 ghost use Rattle.turn_hall.specs.Handles.{IsPassOf, first_of, seats_in};
 
-use archive::Archive;
-use archive_hall::{Put, Serves, ask_next, both, one_then_other, put_file};
+use archive_hall::{Archive, Put, Serves, ask_next, both, one_then_other, put_file};
 use archive_turns::{ArchiveBack, ArchiveCall};
 use blob::Blob;
 use cta_model::{Answer, Direction, Locality, Look, Refusal, Told, Who};

@@ -1,0 +1,10 @@
+pub mod Refused
+pub mod PlaceInfos
+pub mod FileRefused
+pub mod Answered
+pub mod Claimed
+pub mod StageRefused
+pub mod Reported
+mod AdminRefused
+mod TapeRefused
+mod RepackTold

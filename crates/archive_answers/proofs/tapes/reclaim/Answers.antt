@@ -1,0 +1,10 @@
+use Rattle.std.proofs.Common.{◌∙◌}
+use Rattle.archive_answers.proofs.Refused.{is_refused}
+use Rattle.archive_answers.proofs.TapeRefused.{reclaim_accepted}
+use Rattle.archive_answers.proofs.tapes.reclaim.Goals as goal
+
+pub returns-in-Some-clause-answer : goal.returns-in-Some-clause-answer
+returns-in-Some-clause-answer g c = is_refused _ c.in-Some.refusal (c.refusal_of_reclaim.ensures c.args.at c.args.who ∙ c.in-Some.is)
+
+pub reclaim-requires-clause-accepted : goal.reclaim-requires-clause-accepted
+reclaim-requires-clause-accepted g c = reclaim_accepted c.args.state.now.site c.args.state.now.history c.args.at c.args.who c.args.tape (c.refusal_of_reclaim.ensures c.args.at c.args.who ∙ c.in_default.is)

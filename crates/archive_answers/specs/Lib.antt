@@ -1,0 +1,5 @@
+pub use Rattle.kept_state.specs.Kept
+pub mod Refusals
+pub mod FileRefusals
+pub mod StageRefusals
+pub mod AdminRefusals

@@ -1,2 +1,0 @@
-pub mod PlaceInfos
-pub mod Refused
