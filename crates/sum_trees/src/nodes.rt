@@ -7,14 +7,15 @@ ghost use Rattle.sum_trees.specs.Trees.{CanFork, CanSettle, Forks, Settles};
 
 use crate::summed::Summed;
 
-// A node of a tree: its item, the sum of the items of its tree, the places of its left and right trees, and its height.
+// A node of a tree: the sum of the items of its tree, its height, the places of its left and right trees, and its item. What is read
+// of a node beside the way stands in front, so that it mostly takes one line of a cache, and what is read on the way stands together.
 #[derive(Clone, Copy)]
 pub(crate) struct Node<T, S> {
-    pub(crate) item: T,
     pub(crate) sum: S,
+    pub(crate) height: u32,
     pub(crate) left: u32,
     pub(crate) right: u32,
-    pub(crate) height: u32,
+    pub(crate) item: T,
 }
 
 // The place that stands for the empty tree.

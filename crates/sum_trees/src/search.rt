@@ -81,21 +81,29 @@ pub(crate) fn item_from<T: Summed>(nodes: &[Node<T, T::Sum>], root: u32, item: &
     item_at(nodes, from_or(nodes, root, item, NOWHERE))
 }
 
+// The place of the item that is like this one, or the place that stands for the empty tree where there is none.
+fn place_like<T: Summed>(nodes: &[Node<T, T::Sum>], root: u32, like: &T) -> u32
+    requires { IsRoot T.sums nodes.now root }
+    ensures { TellsPassing T.sums T.before (is_like T.before like.now) nodes.now root (item_at nodes.now result) }
+{
+    match node_of(nodes, root) {
+        None => NOWHERE,
+        Some(node) => {
+            if like.is_before(&node.item) {
+                return place_like(nodes, node.left, like);
+            }
+            if node.item.is_before(like) {
+                return place_like(nodes, node.right, like);
+            }
+            root
+        }
+    }
+}
+
 // The item that is like this one.
 pub(crate) fn item_like<T: Summed>(nodes: &[Node<T, T::Sum>], root: u32, like: &T) -> Option<T>
     requires { IsRoot T.sums nodes.now root }
     ensures { TellsPassing T.sums T.before (is_like T.before like.now) nodes.now root result }
 {
-    match node_of(nodes, root) {
-        None => None,
-        Some(node) => {
-            if like.is_before(&node.item) {
-                return item_like(nodes, node.left, like);
-            }
-            if node.item.is_before(like) {
-                return item_like(nodes, node.right, like);
-            }
-            Some(node.item)
-        }
-    }
+    item_at(nodes, place_like(nodes, root, like))
 }
