@@ -65,8 +65,9 @@ impl<M: Told + Drop> Archive<M> {
     }
 
     /// That the laws of the archive hold of the history, whatever was asked: a file is said to be on tape only where each copy was flushed,
-    /// and no file is lost; a recall ends at most once; a live job is queued once or claimed once; each Next mounted the choice within the
-    /// quotas; and no copy is lost, through repacks too. A law, which does nothing when it runs.
+    /// and a live file is in the buffer or each of its copies was flushed once; a recall ends at most once; a live job is queued once or
+    /// claimed once; each Next mounted the choice within the quotas; and a copy that had a place keeps one, on a tape that is not reclaimed
+    /// under it, through repacks too. A law, which does nothing when it runs.
     pub fn holds_laws(&self)
         ensures { HoldsLaws self.now.site self.now.history }
     {

@@ -195,7 +195,7 @@ body_finished limit b rest used (step.Whole n r) fed given s e is =
 
 pub finished_within : (rest : List ℕ) (used : ℕ) (b : Collected) (r : BodyStep) → used ≤ length rest → IsFinished used b r → BodyStepWithin rest r
 finished_within rest used b (step.Moved n c) within is = absurd is
-finished_within rest used b (step.Need c) within is = tt
+finished_within rest used b (step.Need c) within is = absurd is
 finished_within rest used b (step.Refused refusal) within is = tt
 finished_within rest used b (step.NoMemory c) within is = tt
 finished_within rest used b (step.Whole n r) within is = rw is.0 within

@@ -1,14 +1,18 @@
 -- What a connection stands for when a piece more has come.
-use Rattle.std.proofs.Common.{◌≡◌, ◌≤◌, ℕ, List, [], ◌∷◌, ◌++◌, length, take, drop, refl, sym, ap, ◌∙◌, append_assoc, arith, inl, inr, length-append}
-use Rattle.std.proofs.lemmas.List.{take-append-le, drop-append-le}
+use Rattle.std.proofs.Common.{◌≡◌, ℕ, List, [], ◌∷◌, ◌++◌, take, refl, sym, ap, ◌∙◌, append_assoc, arith, inl, inr, length-append}
+use Rattle.std.specs.Prelude.{Result, Ok, Err, MatchResult}
+use Rattle.std.proofs.lemmas.List.{take-append-le}
 use Rattle.httparse.specs.Grammar.{RequestHead, print_request, print_chunk_line}
 use Rattle.wire_http.specs.Head.{IsBadHead}
 use Rattle.conn.specs.Message.{message_text, messages_text}
 use Rattle.conn.specs.Cut.{Part, InPlain, AtLine, InData, AtTrailer, part_text, Event, IsBadLine, IsBadEnd, IsBadTrailer, IsBadPart, Tail, tail_text, tail_events, messages_events, IsTail, OpenHead, OpenBody, NoHead, Breaks, NoBody, Closing, IsOpen}
-use Rattle.conn.specs.Stands.{Ended, StandsAt, IsOver}
+use Rattle.conn.specs.Held.{IsOver}
+use Rattle.conn.specs.Stands.{Ended, Gives, StandsAt}
 use Rattle.wire_http.specs.declared.refusal.WireRefusal.{WireRefusal}
 use Rattle.conn.specs.declared.state.State.{State}
 use Rattle.conn.specs.declared.state.State.TheVariants as state
+use Rattle.conn.specs.declared.next.Next.{Next}
+use Rattle.conn.specs.declared.next.Next.TheVariants as next
 
 -- what no first bytes are, no longer ones are
 bad_head_more : (n : ℕ) (rest more : List ℕ) → n ≡ 16384 → IsBadHead rest → IsBadHead (rest ++ more)
@@ -122,16 +126,22 @@ over_more limit (state.InBody b) rest more fed given over h = absurd over
 over_more limit state.Over rest more fed given over h = ended_more limit fed more given h
 over_more limit state.Shut rest more fed given over h = h
 
--- the bytes that are kept grow by the piece
-pub kept_more : (limit : ℕ) (s : State) (at : ℕ) (kept new more fed : List ℕ) (given : List Event) → at ≤ length kept → new ≡ kept ++ more
-    → StandsAt limit s (drop at kept) fed given → StandsAt limit s (drop at new) (fed ++ more) given
-kept_more limit s at kept new more fed given within is h =
-    let e : drop at new ≡ drop at kept ++ more = ap (drop at) is ∙ drop-append-le at kept more within in
-    rw e (stands_more limit s (drop at kept) more fed given h)
+-- the bytes that are kept grow by the piece, or stay
+pub piece_more : {A E : Type 0} (r : Result A E) (limit : ℕ) (s : State) (rest new more fed : List ℕ) (given : List Event) → MatchResult r (λ _. new ≡ rest ++ more) (λ _. new ≡ rest)
+    → StandsAt limit s rest fed given → MatchResult r (λ _. StandsAt limit s new (fed ++ more) given) (λ _. StandsAt limit s new fed given)
+piece_more (Ok x) limit s rest new more fed given is h = rw is (stands_more limit s rest more fed given h)
+piece_more (Err e) limit s rest new more fed given is h = rw is h
 
--- the same where the bytes that were used up went
-pub moved_more : (limit : ℕ) (s : State) (at : ℕ) (kept rest new more fed : List ℕ) (given : List Event) → rest ≡ drop at kept → new ≡ rest ++ more
-    → StandsAt limit s (drop at kept) fed given → StandsAt limit s new (fed ++ more) given
-moved_more limit s at kept rest new more fed given same is h =
-    let e : new ≡ drop at kept ++ more = is ∙ ap (λ xs. xs ++ more) same in
-    rw e (stands_more limit s (drop at kept) more fed given h)
+-- where nothing is read any more, the rest says nothing
+over_stands : (limit : ℕ) (s : State) (rest rest' fed : List ℕ) (given : List Event) → IsOver s → StandsAt limit s rest fed given → StandsAt limit s rest' fed given
+over_stands limit state.AtHead rest rest' fed given over h = absurd over
+over_stands limit (state.InBody b) rest rest' fed given over h = absurd over
+over_stands limit state.Over rest rest' fed given over h = h
+over_stands limit state.Shut rest rest' fed given over h = h
+
+pub over_gives : (limit : ℕ) (n : Next) (s : State) (rest rest' fed : List ℕ) (given : List Event) → IsOver s → Gives limit n s rest fed given → Gives limit n s rest' fed given
+over_gives limit next.Need s rest rest' fed given over h = (over_stands limit s rest rest' fed given over h.0, h.1)
+over_gives limit next.Continue s rest rest' fed given over h = over_stands limit s rest rest' fed _ over h
+over_gives limit (next.Request r) s rest rest' fed given over h = over_stands limit s rest rest' fed _ over h
+over_gives limit (next.Refused r) s rest rest' fed given over h = over_stands limit s rest rest' fed _ over h
+over_gives limit next.Closed s rest rest' fed given over h = (over_stands limit s rest rest' fed given over h.0, h.1)

@@ -1,5 +1,5 @@
 -- Chunk lines and trailers at the front of the rest.
-use Rattle.std.proofs.Common.{◌≡◌, ◌⊎◌, ◌<◌, ◌≤◌, ◌+◌, ◌-◌, ℕ, List, [], ◌++◌, length, take, drop, refl, sym, ap, ◌∙◌, append_assoc, arith, inl, inr, length-append}
+use Rattle.std.proofs.Common.{◌≡◌, ◌<◌, ◌≤◌, ◌+◌, ◌-◌, ℕ, List, [], ◌++◌, length, take, drop, refl, sym, ap, ◌∙◌, append_assoc, arith, inl, inr, length-append}
 use Rattle.std.proofs.lemmas.List.{take-append-drop, append-nil, length-take, length-map, take_all}
 use Rattle.std.proofs.lemmas.List.Elements.{recursion_from_All}
 use Rattle.std.proofs.Math.Seq.{drop-append_seam}
@@ -13,7 +13,6 @@ use Rattle.conn.specs.Reading.{IsAt, Reached, Ends, Fails}
 use Rattle.wire_http.specs.declared.refusal.WireRefusal.TheVariants.{TooLarge, BadChunk}
 use Rattle.conn.specs.declared.place.Phase.TheVariants as phase
 use Rattle.conn.specs.declared.place.Place.{Place}
-use Rattle.std.specs.Prelude.{Err}
 
 -- all bytes are the first ones and the others
 pub behind : (n : ℕ) (bs more : List ℕ) → bs ++ more ≡ take n bs ++ (drop n bs ++ more)

@@ -1,5 +1,5 @@
 -- What no bytes give.
-use Rattle.std.proofs.Common.{◌≡◌, ℕ, ◌<◌, IsTrue, List, [], ◌++◌, length, length-append, codes, refl, sym, ap, append-nil, arith, inl, lit<, lit≤}
+use Rattle.std.proofs.Common.{ℕ, ◌<◌, IsTrue, [], length, length-append, codes, refl, sym, ap, append-nil, arith, inl, lit<, lit≤}
 use Rattle.std.proofs.lemmas.List.Elements.{All-from_recursion}
 use Rattle.std.proofs.lemmas.Str.{IsUtf8-from_ascii}
 use Rattle.std.proofs.lemmas.Str.Ascii.{IsAscii-from_all}

@@ -1,6 +1,7 @@
 pub mod Message
 pub mod Cut
 pub mod Reading
+pub mod Held
 pub mod Stands
 pub mod Walking
 pub mod Examples

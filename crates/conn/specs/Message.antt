@@ -14,6 +14,10 @@ most_line = 256
 abbrev pub most_trailer : ℕ
 most_trailer = 16384
 
+-- what is unfinished of a head, of a chunk line or of a trailer has at most 16,384 bytes
+abbrev pub most_unfinished : ℕ
+most_unfinished = 16384
+
 -- a chunk line, its bytes, and CR LF
 pub record Chunk : Type 0 where
   pub line : ChunkLine

@@ -2,7 +2,7 @@
 use Rattle.std.specs.Prelude.{◌≡◌, ℕ, ◌+◌, ◌<◌, ◌≤◌, ◌⊎◌, List, [], ◌∷◌, ◌++◌, length, take, drop}
 use Rattle.httparse.specs.Grammar.{RequestHead, chunk_size}
 use Rattle.wire_http.specs.Head.{framing, most_body, IsHeadOf}
-use Rattle.conn.specs.Message.{Body, body_text, body_bytes, content, IsHead, IsBody}
+use Rattle.conn.specs.Message.{most_unfinished, Body, body_text, body_bytes, content, IsHead, IsBody}
 use Rattle.conn.specs.Cut.{Part, InPlain, AtLine, InData, AtTrailer, part_text, part_bytes, IsPart, IsOpenPart, IsBadPart, IsBadEnd}
 use Rattle.wire_http.specs.declared.head.BodyLen.{BodyLen}
 use Rattle.wire_http.specs.declared.head.BodyLen.TheVariants.{Sized, Chunked}
@@ -98,10 +98,10 @@ IsCrLf rest end.Whole = rest ≡ 13 ∷ 10 ∷ drop 2 rest
 IsCrLf rest end.Part = (rest ≡ []) ⊎ (rest ≡ 13 ∷ [])
 IsCrLf rest end.Wrong = IsBadEnd rest
 
--- a step reads no more than there is
+-- a step reads no more than there is, and waits only on few bytes
 abbrev pub StepWithin : List ℕ → Step → Type 0
 StepWithin rest (step.Moved used) = (used ≤ length rest) × (0 < used)
 StepWithin rest (step.Taken used) = (used ≤ length rest) × (0 < used)
-StepWithin rest step.Need = Unit {0}
+StepWithin rest step.Need = length rest ≤ most_unfinished
 StepWithin rest (step.Whole used) = used ≤ length rest
 StepWithin rest (step.Refused refusal) = Unit {0}

@@ -1,10 +1,11 @@
 -- What a connection stands for: the bytes that it was fed, and what it has given out.
-use Rattle.std.specs.Prelude.{◌≡◌, ℕ, ◌+◌, ◌*◌, ◌<◌, ◌≤◌, true, false, List, [], ◌∷◌, ◌++◌, length, drop, Result, Ok, Err, flat_map, vec_len, vec_capacity}
+use Rattle.std.specs.Prelude.{◌≡◌, ℕ, ◌+◌, ◌*◌, ◌<◌, ◌≤◌, true, false, List, [], ◌∷◌, ◌++◌, length, drop, Result, Ok, Err, flat_map}
 use Rattle.std.specs.List.{AllByRecursion}
 use Rattle.httparse.specs.Grammar.{RequestHead, print_request}
-use Rattle.conn.specs.Message.{Message, messages_text}
+use Rattle.conn.specs.Message.{most_unfinished, Message, messages_text}
 use Rattle.conn.specs.Cut.{Part, part_text, Event, Continues, Requests, Refuses, told, messages_events, IsKept, Cut, IsLinkCut, IsOpen, cut_events}
 use Rattle.conn.specs.Reading.{IsInBody}
+use Rattle.conn.specs.Held.{HasSpace, HoldsWith, IsOver, held, memory, unread}
 use Rattle.conn.specs.declared.state.Collected.{Collected}
 use Rattle.conn.specs.declared.state.State.{State}
 use Rattle.conn.specs.declared.state.State.TheVariants as state
@@ -69,14 +70,7 @@ limit_of c = c.limit
 
 -- so many bytes more can be kept without memory
 abbrev pub HasRoom : Conn → ℕ → Type 0
-HasRoom c more = vec_len c.buf + more ≤ vec_capacity c.buf
-
--- nothing is read after that
-abbrev pub IsOver : State → Type 0
-IsOver state.AtHead = ⊥
-IsOver (state.InBody b) = ⊥
-IsOver state.Over = Unit {0}
-IsOver state.Shut = Unit {0}
+HasRoom c more = HasSpace c.buffer more
 
 -- what was given stands at the end of what had been given
 abbrev pub Gives : ℕ → Next → State → List ℕ → List ℕ → List Event → Type 0
@@ -94,7 +88,19 @@ Advances limit rest s (Err e) fed given = StandsAt limit s rest fed given
 
 -- the bytes that weren't read yet
 abbrev pub rest_of : Conn → List ℕ
-rest_of c = drop c.at c.buf.items
+rest_of c = unread c.buffer
+
+-- how many bytes a connection holds: those that weren't read, and some that were
+abbrev pub buffered : Conn → ℕ
+buffered c = held c.buffer
+
+-- for how many bytes it holds memory
+abbrev pub capacity : Conn → ℕ
+capacity c = memory c.buffer
+
+-- what it holds with an answer: with Need the unfinished bytes alone, at most 16,384; with a closing request, a refusal and Closed no byte, and no memory for one
+abbrev pub Holds : Next → Conn → Type 0
+Holds n c = HoldsWith n c.buffer
 
 -- of all bytes that it was fed, those events are what a connection gave
 abbrev pub Stands : Conn → List ℕ → List Event → Type 0
@@ -123,10 +129,10 @@ BodySteps limit rest (step.Whole used r) fed given =
 BodySteps limit rest (step.Refused refusal) fed given = Ended limit fed (given ++ Refuses refusal ∷ [])
 BodySteps limit rest (step.NoMemory b) fed given = Within limit b rest fed given
 
--- a step through a body reads no more than there is
+-- a step through a body reads no more than there is, and waits only on few bytes
 abbrev pub BodyStepWithin : List ℕ → BodyStep → Type 0
 BodyStepWithin rest (step.Moved used b) = (used ≤ length rest) × (0 < used)
-BodyStepWithin rest (step.Need b) = Unit {0}
+BodyStepWithin rest (step.Need b) = length rest ≤ most_unfinished
 BodyStepWithin rest (step.Whole used r) = used ≤ length rest
 BodyStepWithin rest (step.Refused refusal) = Unit {0}
 BodyStepWithin rest (step.NoMemory b) = Unit {0}

@@ -1,6 +1,7 @@
 // One step of a connection.
 ghost use Rattle.std.specs.Prelude.{◌≡◌, ℕ, List, Ok, IfOk};
 ghost use Rattle.conn.specs.Cut.{Event};
+ghost use Rattle.conn.specs.Held.{Leaves};
 ghost use Rattle.conn.specs.Stands.{StandsAt, Advances, Within, BodySteps, BodyStepWithin, AdvanceWithin, AdvanceLess, IsFinished};
 ghost use Rattle.conn.specs.declared.state.Advance.TheVariants as Advance;
 ghost use Rattle.conn.specs.declared.next.Next.TheVariants as Next;
@@ -27,6 +28,7 @@ fn advance_head(
         → Advances limit rest.now state.new result fed given }
     ensures within { IfOk result (AdvanceWithin rest.now) }
     ensures less { IfOk result (AdvanceLess rest.now state.old state.new) }
+    ensures leaves { Leaves rest.now state.new result }
 {
     match read_head(alloc, rest, limit)? {
         HeadRead::Need => Ok(Advance::Gives(0, Next::Need)),
@@ -116,6 +118,7 @@ pub(crate) fn advance(
         → Advances limit rest.now state.new result fed given }
     ensures within { IfOk result (AdvanceWithin rest.now) }
     ensures less { IfOk result (AdvanceLess rest.now state.old state.new) }
+    ensures leaves { Leaves rest.now state.new result }
     ensures shut { state.old ≡ State.Shut → (result ≡ Ok (Advance.Gives 0 Next.Closed)) × (state.new ≡ State.Shut) }
 {
     match mem::replace(state, State::Shut) {

@@ -1,9 +1,12 @@
 // One connection: its bytes come in any pieces, and its requests go out.
-ghost use Rattle.std.specs.Prelude.{◌≡◌, Ok, ◌≤◌, ◌<◌, ◌++◌, [], IfOk, IsOk, OnOk, ℕ, List, length, vec_len, IsTrue, MatchResult, drop};
+ghost use Rattle.std.specs.Prelude.{◌≡◌, Ok, ◌≤◌, ◌<◌, ◌+◌, ◌*◌, ◌++◌, [], IfOk, IsOk, OnOk, ℕ, List, length, MatchResult};
 ghost use Rattle.conn.specs.Cut.{Event};
+ghost use Rattle.conn.specs.Held.{IsOver, held};
 
 use crate::advance::advance;
+use crate::buffer::Buffer;
 use crate::completion::body_completion;
+use crate::keeping::let_go;
 use crate::next::Next;
 use crate::state::{Advance, State};
 use crate::walk::has_cut;
@@ -13,17 +16,21 @@ use std::alloc::Global;
 /// The bytes of one connection, read as requests (RFC 9112). Contracts speak of it by `Stands conn fed given`: of all
 /// bytes that it was fed, in whatever pieces, those events are what was given out. After a call of `close` it stands
 /// for nothing any more.
+///
+/// Behind `feed` and `reserve` it holds the bytes that were not read, and at most as many that were; `next` adds none. Once `next` has
+/// answered `Need` it holds the unfinished head, chunk line or trailer alone, which is at most 16,384 bytes: the bytes of a body go into
+/// its content as they come. One that gave a refusal or a closing request, or was closed, holds none. The memory for bytes that come grows with the most that it held or made
+/// room for, and is not made smaller while the connection goes on; it is given back with the event that ends it.
 #[derive(Drop)]
 pub struct Conn {
     limit: u64,
-    buf: Vec<u8>,
-    at: usize,
+    buffer: Buffer,
     state: State,
-    ghost within: { at ≤ vec_len buf },
+    ghost over: { IsOver state → held buffer ≡ 0 },
 }
 
 impl Conn {
-    ghost use Rattle.conn.specs.Stands.{Stands, GivesNext, HasCompletion, HasRoom, IsOver, IsShut, UnlessLast, left, limit_of, rest_of};
+    ghost use Rattle.conn.specs.Stands.{Stands, GivesNext, HasCompletion, HasRoom, Holds, IsShut, UnlessLast, buffered, capacity, left, limit_of, rest_of};
     ghost use Rattle.conn.specs.declared.next.Next.TheVariants as Next;
 
     /// A connection that was fed nothing. A file may have `file_limit` bytes. It takes no memory.
@@ -33,46 +40,23 @@ impl Conn {
     {
         Conn {
             limit: file_limit,
-            buf: Vec::new(alloc),
-            at: 0,
+            buffer: Buffer::new(alloc),
             state: State::AtHead,
         }
     }
 
-    fn is_over(&self) -> bool
-        ensures { IsTrue result → IsOver self.now.state }
-    {
-        matches!(self.state, State::Over | State::Shut)
-    }
-
-    // Drops the bytes that were read, where they are at least as many as the others: so no more is moved than was read since
-    // the last time.
-    fn drop_read(&mut self)
-        ensures rest { rest_of self.new ≡ rest_of self.old }
-        ensures room { (more : ℕ) → HasRoom self.old more → HasRoom self.new more }
-        ensures state { self.new.state ≡ self.old.state }
-        ensures limit { limit_of self.new ≡ limit_of self.old }
-    {
-        let kept = self.buf.len() - self.at;
-        if self.at > 0 && self.at >= kept {
-            self.buf.copy_within(self.at.., 0);
-            self.buf.truncate(kept);
-            self.at = 0;
-        }
-    }
-
     /// Makes room for so many bytes more: a piece of at most that length, fed next, takes no memory. NoMemory makes no room.
-    /// In both cases the connection stands for the same bytes and gave the same. Its cost is part of that of `feed`: over all
-    /// calls of both, one move of each byte and the growing of the memory.
+    /// In both cases the connection stands for the same bytes and gave the same. One that is over takes memory too, until `next` is
+    /// called. Its cost is part of that of `feed`: over all calls of both, one move of each byte and the growing of the memory.
     pub fn reserve(&mut self, more: usize) -> Result<(), NoMemory>
         ensures stands { (fed : List ℕ) (given : List Event) → Stands self.old fed given → Stands self.new fed given }
         ensures room { OnOk result (HasRoom self.new more) }
+        ensures rest { rest_of self.new ≡ rest_of self.old }
+        ensures holds { buffered self.new ≤ 2 * length (rest_of self.new) }
         ensures shut { IsShut self.old → IsShut self.new }
         ensures limit { limit_of self.new ≡ limit_of self.old }
     {
-        self.drop_read();
-        self.buf.reserve(more)?;
-        Ok(())
+        self.buffer.reserve(more)
     }
 
     /// Takes the next piece, of any length. NoMemory leaves the connection as before; it does not come where `reserve` made
@@ -82,32 +66,37 @@ impl Conn {
         ensures fed { (fed : List ℕ) (given : List Event) → Stands self.old fed given
             → MatchResult result (λ _. Stands self.new (fed ++ piece.now) given) (λ _. Stands self.new fed given) }
         ensures fits { HasRoom self.old (length piece.now) → IsOk result }
+        ensures holds { buffered self.new ≤ 2 * (length (rest_of self.old) + length piece.now) }
+        ensures over { IsOver self.old.state → (buffered self.new ≡ 0) × IsOver self.new.state }
         ensures shut { IsShut self.old → IsShut self.new }
         ensures limit { limit_of self.new ≡ limit_of self.old }
     {
-        if self.is_over() {
+        if self.state.is_over() {
             return Ok(());
         }
-        self.drop_read();
-        self.buf.extend_from_slice(piece)?;
-        Ok(())
+        self.buffer.append(piece)
     }
 
     /// What comes next. `Need` comes exactly where what is left of the bytes is unfinished and no 100 Continue is due. After
-    /// NoMemory the connection stands for the same bytes and gave the same, and the call can be made again. Each byte of a body
-    /// is looked at a fixed number of times; a head, a chunk line or a trailer that isn't whole is read again at the next call.
+    /// NoMemory the connection stands for the same bytes and gave the same, and the call can be made again. With `Need` the connection
+    /// holds the unfinished bytes alone, at most 16,384; with a closing request, a refusal and `Closed` it holds none, and no memory for
+    /// one. Each byte of a body is looked at a fixed number of times; a head, a chunk line or a trailer that isn't whole is read again
+    /// at the next call, and moved once, when `Need` comes.
     pub fn next(&mut self, alloc: Global) -> Result<Next, NoMemory>
         ensures answers { (fed : List ℕ) (given : List Event) → Stands self.old fed given
             → GivesNext self.new result fed given }
         ensures shut { IsShut self.old → (result ≡ Ok Next.Closed) × IsShut self.new }
         ensures less { IfOk result (λ n. UnlessLast n (left self.new < left self.old)) }
+        ensures holds { IfOk result (λ n. Holds n self.new) }
+        ensures fewer { buffered self.new ≤ buffered self.old }
         ensures limit { limit_of self.new ≡ limit_of self.old }
     {
         'steps: loop {
-            match advance(alloc, self.limit, &self.buf[self.at..], &mut self.state) {
-                Ok(Advance::Moved(used)) => self.at += used,
+            match advance(alloc, self.limit, self.buffer.unread(), &mut self.state) {
+                Ok(Advance::Moved(used)) => self.buffer.pass(used),
                 Ok(Advance::Gives(used, next)) => {
-                    self.at += used;
+                    self.buffer.pass(used);
+                    let_go(&mut self.buffer, &self.state, &next);
                     return Ok(next);
                 }
                 Err(e) => return Err(e),
@@ -120,19 +109,22 @@ impl Conn {
     pub fn has_completion(&self)
         ensures { (fed : List ℕ) (given : List Event) → Stands self.now fed given → HasCompletion (limit_of self.now) fed given }
     {
+        let rest = self.buffer.unread();
         match &self.state {
-            State::AtHead => has_cut(self.limit, &self.buf[self.at..]),
-            State::InBody(body) => body_completion(self.limit, body, &self.buf[self.at..]),
+            State::AtHead => has_cut(self.limit, rest),
+            State::InBody(body) => body_completion(self.limit, body, rest),
             State::Over => {}
             State::Shut => {}
         }
     }
 
-    /// Closes the connection from here: nothing comes any more, also of what was fed before.
+    /// Closes the connection from here: nothing comes any more, also of what was fed before. Its bytes and their memory are let go.
     pub fn close(&mut self)
         ensures shut { IsShut self.new }
+        ensures holds { (buffered self.new ≡ 0) × (capacity self.new ≡ 0) }
         ensures limit { limit_of self.new ≡ limit_of self.old }
     {
+        self.buffer.let_go();
         self.state = State::Shut;
     }
 }

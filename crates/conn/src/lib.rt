@@ -3,9 +3,11 @@
 #![tactic(auto)]
 
 mod advance;
+mod buffer;
 mod completion;
 mod connection;
 mod interim;
+mod keeping;
 mod laws;
 mod next;
 mod pieces;

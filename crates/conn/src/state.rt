@@ -1,4 +1,6 @@
 // Where a connection is.
+ghost use Rattle.std.specs.Prelude.{IsFalse, IsTrue};
+ghost use Rattle.conn.specs.Held.{IsOver};
 
 use crate::next::Next;
 use crate::place::Place;
@@ -21,6 +23,16 @@ pub(crate) enum State {
     Over,
     // It was closed from here.
     Shut,
+}
+
+impl State {
+    // Nothing is read any more.
+    pub(crate) fn is_over(&self) -> bool
+        ensures over { IsTrue result → IsOver self.now }
+        ensures goes_on { IsFalse result → ¬ (IsOver self.now) }
+    {
+        matches!(self, State::Over | State::Shut)
+    }
 }
 
 // What a step did, and how many bytes it read.

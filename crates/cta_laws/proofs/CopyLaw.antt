@@ -1,4 +1,4 @@
--- No copy is lost: no later entry reclaims the tape on which a copy has its place.
+-- No later entry reclaims the tape on which a copy has its place.
 use Rattle.std.proofs.Common.{◌≡◌, ℕ, ◌+◌, ◌≤◌, inl, inr, List, [], ◌∷◌, ◌++◌, Bool, true, false, ◌||◌, refl, sym, ap, subst, arith, length, ◌∙◌}
 use Rattle.std.specs.Prelude.{Option, Some, None, is_some, if◌then◌else◌, ◌==◌}
 use Rattle.std.specs.List.{list_any}
@@ -17,7 +17,7 @@ use Rattle.cta_model.specs.Mounts.{tape_of_mount, asked_mount}
 use Rattle.cta_model.specs.Tapes.{tape_items}
 use Rattle.cta_model.specs.Places.{place_of, place_after, last_flushed, fseq_after, flushed_in, is_copy_of, live_items_on}
 use Rattle.cta_model.specs.Legal.{IsLegal}
-use Rattle.cta_laws.specs.Places.{NoCopyIsLost, flushes, reclaims}
+use Rattle.cta_laws.specs.Places.{PlacesAreNeverReclaimed, flushes, reclaims}
 use Rattle.cta_laws.proofs.Tests.{bool_cases}
 use Rattle.cta_laws.proofs.PlaceLaw.{live_place, live_before, flushed_below, places_on_tape, found_there}
 use Rattle.cta_laws.proofs.FseqLaw.{places_below}
@@ -91,8 +91,8 @@ older_part : (site : Site) (newer g : History) → IsLegal site (newer ++ g) →
 older_part site [] g legal = legal
 older_part site (x ∷ newer) g legal = older_part site newer g legal.0
 
-pub no_copy_is_lost : NoCopyIsLost
-no_copy_is_lost site newer h e legal f c p is made none =
+pub places_are_never_reclaimed : PlacesAreNeverReclaimed
+places_are_never_reclaimed site newer h e legal f c p is made none =
     let parts = live_place (newer ++ e ∷ h) f c p is in
     let last : last_flushed (e ∷ h) f c ≡ Some p = sym (flushed_as_before newer (e ∷ h) f c none) ∙ parts.1 in (
       made_there c (tape_of_mount h (asked_mount e.ask)) (fseq_after (flushed_in e.ask e.answer) f c None) (last_flushed h f c) p (some_flushed f c (flushed_in e.ask e.answer) None made) last,

@@ -1,4 +1,4 @@
--- No file is lost, and a recalled file is resident.
+-- A live file is resident or was flushed, and a recalled file is resident.
 use Rattle.std.proofs.Common.{◌≡◌, ℕ, zero, suc, ◌+◌, ◌-◌, ◌≤◌, ◌⊎◌, inl, inr, List, [], ◌∷◌, ◌++◌, Bool, true, false, not, refl, sym, subst, length}
 use Rattle.std.specs.Prelude.{Option, Some, None, is_some, is_none, if◌then◌else◌, ◌==◌, nat_lt, bytes_eq}
 use Rattle.std.specs.List.{list_all, range_with_len}
@@ -29,7 +29,7 @@ use Rattle.cta_model.specs.Batches.{batch_of}
 use Rattle.cta_site.specs.Paths.{is_path}
 use Rattle.cta_model.specs.Answers.{refuse, answer_of, light_answer, is_too_heavy, batch_answer, claim_by}
 use Rattle.cta_model.specs.Legal.{IsLegal, IsNext}
-use Rattle.cta_laws.specs.Localities.{NoFileIsLost}
+use Rattle.cta_laws.specs.Localities.{ResidentOrFlushed}
 use Rattle.cta_laws.specs.Recalls.{StaysResident, is_kept}
 use Rattle.cta_laws.proofs.Tests.{bool_cases}
 use Rattle.cta_laws.proofs.Claims.{AllOf, all_pass}
@@ -157,8 +157,8 @@ kept_live site (e ∷ h) legal f live =
 pub resident_by : (h : History) (f : ℕ) → is_live h f ≡ true → is_some (last_arrival h f) ≡ true → is_resident h f ≡ true
 resident_by h f live here = rw live here
 
-pub no_file_is_lost : NoFileIsLost
-no_file_is_lost site h legal f live =
+pub resident_or_flushed : ResidentOrFlushed
+resident_or_flushed site h legal f live =
     elim (kept_live site h legal f live) [ inl here ↦ inl (resident_by h f live here) | inr taped ↦ inr (each_flushed site h f taped) ]
 
 -- ---- a resident file stays

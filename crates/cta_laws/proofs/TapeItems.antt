@@ -21,7 +21,7 @@ use Rattle.cta_model.specs.Tapes.{tape_items, items_after, next_fseq}
 use Rattle.cta_model.specs.Places.{place_of, place_after, last_flushed, fseq_after, flushed_in, is_copy_of, is_at, live_items_on}
 use Rattle.cta_model.specs.Answers.{answer_of, is_accepted, is_known, is_last_batch, same_items, same_item}
 use Rattle.cta_model.specs.Legal.{IsLegal, IsFit}
-use Rattle.cta_laws.specs.Places.{AreInTurn, AreRising, AreLiveItems, ItemsInTurn, FlushedInTurn, IsOfItsFile, ItemsAreOfFiles, PlacesAreApart, LiveItemsInOrder, NoCopyIsLost, is_item_of, flushes, reclaims}
+use Rattle.cta_laws.specs.Places.{AreInTurn, AreRising, AreLiveItems, ItemsInTurn, FlushedInTurn, IsOfItsFile, ItemsAreOfFiles, PlacesAreApart, LiveItemsInOrder, PlacesAreNeverReclaimed, is_item_of, flushes, reclaims}
 use Rattle.cta_laws.proofs.Tests.{bool_cases, or_left, or_right, or_cases}
 use Rattle.cta_laws.proofs.Claims.{AllOf, all_append, all_mono}
 use Rattle.cta_laws.proofs.Sums.{entry_older}

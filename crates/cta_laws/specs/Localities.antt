@@ -45,6 +45,6 @@ ToldTapeIsFlushed =
     → look_answer_of site h t (look.ArchiveInfo paths) ≡ answer.Places (rows infos)
     → AllByRecursion (IsTrueOfTape site h) infos
 
--- no file is lost: in a legal history each live file is resident, or each copy of its class was flushed
-abbrev pub NoFileIsLost : Type 0
-NoFileIsLost = (site : Site) (h : History) → IsLegal site h → (f : ℕ) → is_live h f ≡ true → (is_resident h f ≡ true) ⊎ EachCopyWasFlushed site h f
+-- in a legal history each live file is resident, or each copy of its class was flushed once
+abbrev pub ResidentOrFlushed : Type 0
+ResidentOrFlushed = (site : Site) (h : History) → IsLegal site h → (f : ℕ) → is_live h f ≡ true → (is_resident h f ≡ true) ⊎ EachCopyWasFlushed site h f

@@ -47,10 +47,10 @@ abbrev pub reclaims : ℕ → Ask → Bool
 reclaims v (ask.Reclaim who k) = k == v
 reclaims v _ = false
 
--- no copy is lost: in a legal history, where the entry e made the place that a copy has, that is on the tape of its mount, no later
--- entry reclaims the tape, and the place's fSeq is below the tape's next
-abbrev pub NoCopyIsLost : Type 0
-NoCopyIsLost =
+-- in a legal history, where the entry e made the place that a copy has, that is on the tape of its mount, no later entry reclaims the
+-- tape, and the place's fSeq is below the tape's next
+abbrev pub PlacesAreNeverReclaimed : Type 0
+PlacesAreNeverReclaimed =
     (site : Site) (newer h : History) (e : Entry) → IsLegal site (newer ++ e ∷ h) → (f c : ℕ) (p : Place) → place_of (newer ++ e ∷ h) f c ≡ Some p
     → flushes f c e ≡ true → list_any (flushes f c) newer ≡ false
     → (p.tape ≡ tape_of_mount h (asked_mount e.ask)) × (list_any (λ (x : Entry). reclaims p.tape x.ask) newer ≡ false) × (p.fseq < next_fseq (newer ++ e ∷ h) p.tape)

@@ -25,15 +25,15 @@ pub use jobs::{
 pub use lengths::{
     claims_are_short, flushes_are_short, fseqs_are_low, moments_never_fall, stays_short,
 };
-pub use localities::{no_file_is_lost, tape_is_flushed, told_tape_is_flushed};
+pub use localities::{resident_or_flushed, tape_is_flushed, told_tape_is_flushed};
 pub use media::{flushed_is_true, mounted_stays_true, shelf_stays_true, true_medium_stays};
 pub use mounts::{
     claims_nothing_after_end, keeps_quota, mounts_choice, open_mount_stays, tapes_are_mounted_once,
 };
 pub use places::{
     batches_are_rising, flushed_in_turn, items_are_of_files, items_in_turn, live_items_in_order,
-    no_copy_is_lost, one_place_on_tape, places_are_apart, places_are_of_copies, places_are_on_site,
-    places_below, places_on_tape, places_stay,
+    one_place_on_tape, places_are_apart, places_are_never_reclaimed, places_are_of_copies,
+    places_are_on_site, places_below, places_on_tape, places_stay,
 };
 pub use recalls::{completes_once, recalled_is_resident, stale_after_end, stays_resident};
 pub use repacks::{reading_has_recall, writing_has_job};

@@ -1,5 +1,5 @@
 // Laws of localities.
-ghost use Rattle.cta_laws.specs.Localities.{NoFileIsLost, TapeIsFlushed, ToldTapeIsFlushed};
+ghost use Rattle.cta_laws.specs.Localities.{ResidentOrFlushed, TapeIsFlushed, ToldTapeIsFlushed};
 
 /// A file is on tape, with or without disk, only where each copy of its class was flushed. This project's own.
 pub fn tape_is_flushed()
@@ -12,7 +12,8 @@ pub fn told_tape_is_flushed()
     ensures { ToldTapeIsFlushed }
 {}
 
-/// No file is lost: each live file is in the buffer, or each copy of its class was flushed. This project's own.
-pub fn no_file_is_lost()
-    ensures { NoFileIsLost }
+/// Each live file is in the buffer, or each copy of its class was flushed once. Whether a copy has its place still is said by
+/// `places_stay` and `places_are_never_reclaimed`. This project's own.
+pub fn resident_or_flushed()
+    ensures { ResidentOrFlushed }
 {}

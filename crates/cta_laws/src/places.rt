@@ -1,5 +1,5 @@
 // Laws of places.
-ghost use Rattle.cta_laws.specs.Places.{BatchesAreRising, FlushedInTurn, ItemsAreOfFiles, ItemsInTurn, LiveItemsInOrder, NoCopyIsLost, OnePlaceOnTape, PlacesAreApart, PlacesAreOfCopies, PlacesAreOnSite, PlacesBelow, PlacesOnTape, PlacesStay};
+ghost use Rattle.cta_laws.specs.Places.{BatchesAreRising, FlushedInTurn, ItemsAreOfFiles, ItemsInTurn, LiveItemsInOrder, PlacesAreNeverReclaimed, OnePlaceOnTape, PlacesAreApart, PlacesAreOfCopies, PlacesAreOnSite, PlacesBelow, PlacesOnTape, PlacesStay};
 
 use cta_site::{numbers_are_known, routes_go_apart};
 
@@ -21,8 +21,8 @@ pub fn places_below()
 
 /// Where an entry made the place that a copy has, no later entry reclaims its tape, and its fSeq stays below the next. This
 /// project's own.
-pub fn no_copy_is_lost()
-    ensures { NoCopyIsLost }
+pub fn places_are_never_reclaimed()
+    ensures { PlacesAreNeverReclaimed }
 {}
 
 /// The items of a tape have the fSeqs 1, 2, 3 in turn. This project's own.

@@ -1,5 +1,5 @@
--- How the program ends.
-use Rattle.std.specs.Prelude.{ℕ}
+-- How the program ends, and which file it reads.
+use Rattle.std.specs.Prelude.{◌≡◌, ℕ, List, [], ◌∷◌}
 use Rattle.replay.specs.declared.status.Status.{Status}
 use Rattle.replay.specs.declared.status.Status.TheVariants.{Ok, Usage, Site, Script, ReadFault, WriteFault, NoMemory, TooLong, ListenFault}
 
@@ -14,3 +14,12 @@ exit_number WriteFault = 6
 exit_number NoMemory = 7
 exit_number TooLong = 8
 exit_number ListenFault = 9
+
+-- the number is that of a status of which this holds
+abbrev pub IsNumberOf : (Status → Type 0) → ℕ → Type 0
+IsNumberOf holds number = (status : Status) × holds status × (number ≡ exit_number status)
+
+-- the word that names the site file where the words are `replay SITE`, and an empty one of other words
+abbrev pub site_word : List (List ℕ) → List ℕ
+site_word (word ∷ site ∷ []) = site
+site_word _ = []

@@ -4,47 +4,51 @@
 #![tactic(auto)]
 
 mod report;
+mod run;
 mod words;
 
-use crate::report::{complain, number};
-use crate::words::{site_path, words};
+use crate::report::end_with;
+use crate::run::run;
+use crate::words::{arguments_of, site_path};
 use media::MemBench;
-use outside::{FileSource, StdSink, StdSource};
-use replay::{Status, replay_top};
+use outside::{file_source, std_sink, std_source};
+use replay::Status;
 use std::hash::RandomState;
 use std::process::ExitCode;
 
-// Runs over the real ends: the file that the words name, standard input and standard output.
-fn run(rt: &HostRuntime) -> Status {
-    let words = match words(rt) {
-        Ok(words) => words,
-        Err(status) => return status,
+// Runs over the ends of the machine: the file that the words name, standard input and standard output. A status is why an end couldn't
+// be opened, and nothing was run then.
+fn run_here(rt: &HostRuntime) -> Result<u8, Status> {
+    let alloc = rt.alloc();
+    let arguments = arguments_of(rt)?;
+    let path = site_path(alloc, &arguments)?;
+    let Ok(mut site) = file_source(alloc, rt, path) else {
+        return Err(Status::NoMemory);
     };
-    let path = match site_path(rt.alloc(), &words) {
-        Ok(path) => path,
-        Err(status) => return status,
+    let Ok(mut script) = std_source(alloc, rt) else {
+        return Err(Status::NoMemory);
     };
-    let mut site = FileSource::open(rt, path);
-    let mut script = StdSource::new(rt);
-    let mut out = StdSink::new(rt);
-    let mut bench = MemBench::new(rt.alloc());
     // Where the machine gives no random bytes, paths can't be hashed with keys of their own.
     let Ok(keys) = RandomState::new(rt) else {
-        return Status::NoMemory;
+        return Err(Status::NoMemory);
     };
-    replay_top(
-        rt.alloc(),
-        &words,
+    let mut out = std_sink(rt);
+    let mut bench = MemBench::new(alloc);
+    Ok(run(
+        rt,
+        alloc,
+        &arguments,
         &mut site,
         &mut script,
         &mut out,
         &mut bench,
         keys,
-    )
+    ))
 }
 
 fn main(rt: HostRuntime) -> ExitCode {
-    let status = run(&rt);
-    complain(&rt, status);
-    ExitCode::from(number(status))
+    ExitCode::from(match run_here(&rt) {
+        Ok(number) => number,
+        Err(status) => end_with(&rt, status),
+    })
 }

@@ -3,9 +3,10 @@ ghost use Rattle.std.specs.Prelude.{◌≡◌};
 ghost use Rattle.cta_main.specs.Exit.{exit_number};
 
 use replay::Status;
+use std::io::Eprint;
 
 // The number that the process ends with.
-pub(crate) fn number(status: Status) -> u8
+fn number(status: Status) -> u8
     ensures { result ≡ exit_number status }
 {
     match status {
@@ -22,18 +23,26 @@ pub(crate) fn number(status: Status) -> u8
 }
 
 // Prints the line of a status on standard error, where it has one. That this may fail is not told.
-pub(crate) fn complain(rt: &HostRuntime, status: Status) {
+fn complain<E: Eprint>(errors: &E, status: Status) {
     let _ = match status {
         Status::Ok => Ok(()),
-        Status::Usage => eprintln!(rt;
+        Status::Usage => eprintln!(errors;
             "cta: usage: cta replay SITE | cta serve SITE ADDR MEDIA WORKERS | cta mill SEED FILES WORKERS"
         ),
-        Status::Site { rule, item } => eprintln!(rt; "cta: site rule {rule} at {item}"),
-        Status::Script { offset } => eprintln!(rt; "cta: script at {offset}"),
-        Status::ReadFault => eprintln!(rt; "cta: read fault"),
-        Status::WriteFault => eprintln!(rt; "cta: write fault"),
-        Status::NoMemory => eprintln!(rt; "cta: no memory"),
-        Status::TooLong => eprintln!(rt; "cta: script too long"),
-        Status::ListenFault => eprintln!(rt; "cta: listen fault"),
+        Status::Site { rule, item } => eprintln!(errors; "cta: site rule {rule} at {item}"),
+        Status::Script { offset } => eprintln!(errors; "cta: script at {offset}"),
+        Status::ReadFault => eprintln!(errors; "cta: read fault"),
+        Status::WriteFault => eprintln!(errors; "cta: write fault"),
+        Status::NoMemory => eprintln!(errors; "cta: no memory"),
+        Status::TooLong => eprintln!(errors; "cta: script too long"),
+        Status::ListenFault => eprintln!(errors; "cta: listen fault"),
     };
+}
+
+// Tells how a run ended, and gives the number that the process ends with.
+pub(crate) fn end_with<E: Eprint>(errors: &E, status: Status) -> u8
+    ensures { result ≡ exit_number status }
+{
+    complain(errors, status);
+    number(status)
 }

@@ -1,12 +1,17 @@
 // The words of the command line.
+ghost use Rattle.std.specs.Prelude.{◌≡◌, IfOk, drop, map, string_bytes};
+ghost use Rattle.cta_words.specs.Words.{Spells};
+ghost use Rattle.cta_words.specs.declared.form.Form.{Form};
+ghost use Rattle.cta_main.specs.Exit.{site_word};
+
 use cta_words::{Form, WordsError, read_words};
 use replay::Status;
 use std::alloc::Global;
 use std::env;
 use std::io::ErrorKind;
 
-// The words of the command line behind the program's name. A word that is not UTF-8 is no word of any form.
-pub(crate) fn words(rt: &HostRuntime) -> Result<Vec<String>, Status> {
+// The arguments of the process: the program's name, and then the words of the command line. A word that is not UTF-8 is no word of any form.
+pub(crate) fn arguments_of(rt: &HostRuntime) -> Result<Vec<String>, Status> {
     let args = match env::args(rt) {
         Ok(args) => args,
         Err(error) => {
@@ -16,20 +21,34 @@ pub(crate) fn words(rt: &HostRuntime) -> Result<Vec<String>, Status> {
             });
         }
     };
-    let mut words = Vec::new(rt.alloc());
-    for word in args.skip(1) {
-        if words.push(word).is_err() {
+    let mut arguments = Vec::new(rt.alloc());
+    for word in args {
+        if arguments.push(word).is_err() {
             return Err(Status::NoMemory);
         }
     }
-    Ok(words)
+    Ok(arguments)
+}
+
+// The words behind the program's name.
+pub(crate) fn words_of(arguments: &[String]) -> &[String]
+    ensures { result.now ≡ drop 1 arguments.now }
+{
+    match arguments {
+        [_, words @ ..] => words,
+        [] => arguments,
+    }
 }
 
 // The path of the site file, where the words have the form that is built; otherwise a path that no file has.
-pub(crate) fn site_path<'a>(alloc: Global, words: &'a [String]) -> Result<&'a str, Status> {
-    match read_words(alloc, words) {
+pub(crate) fn site_path(alloc: Global, arguments: &[String]) -> Result<&str, Status>
+    ensures { let words = map string_bytes (drop 1 arguments.now) in (form : Form) → Spells words form → IfOk result (λ path. path.now ≡ site_word words) }
+{
+    match read_words(alloc, words_of(arguments)) {
         Ok(Form::Replay { site }) => Ok(site),
-        Ok(_) | Err(WordsError::Usage) => Ok(""),
+        Ok(Form::Serve { .. }) => Ok(""),
+        Ok(Form::Mill { .. }) => Ok(""),
+        Err(WordsError::Usage) => Ok(""),
         Err(WordsError::NoMemory) => Err(Status::NoMemory),
     }
 }

@@ -4,4 +4,6 @@
 #[cfg(test)]
 mod media_tests;
 #[cfg(test)]
+mod mismatch_tests;
+#[cfg(test)]
 mod session_tests;

@@ -4,6 +4,8 @@
 #[cfg(test)]
 mod link_tests;
 #[cfg(test)]
+mod machine_tests;
+#[cfg(test)]
 mod memory_tests;
 #[cfg(test)]
 mod site_tests;

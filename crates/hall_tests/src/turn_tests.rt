@@ -2,10 +2,11 @@
 ghost use Rattle.std.specs.Prelude.{◌≡◌, ◌+◌, ◌<◌, IfOk, IfSome, length};
 ghost use Rattle.turn_hall.specs.Handles.{IsPassOf, first_of, seats_in};
 
-use archive_hall::{Archive, Put, Serves, ask_next, both, one_then_other, put_file};
+use crate::crew::{Put, Serves, both, one_then_other};
+use archive::Archive;
 use archive_turns::{ArchiveBack, ArchiveCall};
 use blob::Blob;
-use cta_model::{Answer, Direction, Locality, Look, Refusal, Told, Who};
+use cta_model::{Answer, Ask, Direction, Hand, Locality, Look, Refusal, Told, Who};
 use cta_site::{Rows, Text, ValidSite};
 use site_json::read_site;
 use std::alloc::{AllocError, Global};
@@ -151,19 +152,13 @@ fn in_turn<R: Threads + Wait + Sync, T: Serves + Send>(
     (passed, first)
 }
 
-// Whether an ask was refused since the history is full.
-fn is_full(back: &ArchiveBack<Blank>) -> bool {
-    let ArchiveBack::Ask(Ok((answer, _))) = back else {
-        return false;
-    };
+// Whether an answer is that the history is full.
+fn is_full(answer: &Answer) -> bool {
     matches!(answer, Answer::Refused(Refusal::HistoryFull))
 }
 
 // Whether a drive mounts the site's tape to write to it, and its mount is numbered by this entry.
-fn mounts(back: &ArchiveBack<Blank>, entry: u32) -> bool {
-    let ArchiveBack::Ask(Ok((answer, _))) = back else {
-        return false;
-    };
+fn mounts(answer: &Answer, entry: u32) -> bool {
     match answer {
         Answer::Mounted {
             mount,
@@ -191,45 +186,64 @@ fn sees_both(
     there
 }
 
-// Whether a further file is refused since the history is full.
-fn is_filled(
+// Whether the drive mounts with this entry, as it is told in a turn.
+fn mounts_in_turn(
     rt: &impl Wait,
     hall: &Hall<Archive<Blank>>,
     pass: &mut Pass<Archive<Blank>>,
-    put: Put,
+    entry: u32,
 ) -> bool
-    requires { IsPassOf ⟦<Archive<Blank> as Keeps>⟧.site hall.now pass.old }
-    ensures here { IsPassOf ⟦<Archive<Blank> as Keeps>⟧.site hall.now pass.new }
-    ensures seats { pass.new.seats ≡ pass.old.seats }
-{
-    let Put { who, path, blob } = put;
-    let back = put_file(rt, hall, pass, 100, who, path, blob);
-    let full = is_full(&back);
-    drop(back);
-    full
-}
-
-// A drive is asked, and then a file is put: whether the drive mounts with the third entry, and whether the history is full then.
-fn asks_and_fills(
-    rt: &impl Wait,
-    hall: &Hall<Archive<Blank>>,
-    pass: &mut Pass<Archive<Blank>>,
-    put: Put,
-) -> (bool, bool)
     requires here { IsPassOf ⟦<Archive<Blank> as Keeps>⟧.site hall.now pass.old }
     requires drive { 0 < length (first_of hall.now).site.drives.items }
     ensures here { IsPassOf ⟦<Archive<Blank> as Keeps>⟧.site hall.now pass.new }
     ensures seats { pass.new.seats ≡ pass.old.seats }
 {
-    let back = ask_next(rt, hall, pass, 100, 0);
-    let mounted = mounts(&back, 3);
+    let ask = Ask::Next { drive: 0 };
+    let hand = Hand::Nothing;
+    let back = hall.turn(rt, pass, ArchiveCall::Ask { at: 100, ask, hand });
+    let ArchiveBack::Ask(Ok((answer, _))) = &back else {
+        drop(back);
+        return false;
+    };
+    let mounted = mounts(answer, entry);
     drop(back);
-    let filled = is_filled(rt, hall, pass, put);
-    (mounted, filled)
+    mounted
 }
 
-// One thread puts a file, and then another, and then a drive is asked: how many turns the first one's pass is told of, whether the drive
-// mounts with the third entry, and whether the history is full then.
+// Whether the drive mounts with this entry.
+fn mounts_with(archive: &mut Archive<Blank>, entry: u32) -> bool
+    requires { 0 < length archive.old.site.drives.items }
+{
+    match archive.ask(100, Ask::Next { drive: 0 }, Hand::Nothing) {
+        Ok((answer, hand)) => {
+            drop(hand);
+            mounts(&answer, entry)
+        }
+        Err(back) => {
+            drop(back);
+            false
+        }
+    }
+}
+
+// Whether a further file is refused since the history is full.
+fn is_filled(archive: &mut Archive<Blank>, put: Put) -> bool {
+    let Put { who, path, blob } = put;
+    let sum = blob.sum();
+    match archive.ask(100, Ask::Put { who, path, sum }, Hand::Blob(blob)) {
+        Ok((answer, hand)) => {
+            drop(hand);
+            is_full(&answer)
+        }
+        Err(back) => {
+            drop(back);
+            false
+        }
+    }
+}
+
+// One thread puts a file, and then another, and the hall is closed: how many turns the first one's pass is told of, whether the
+// archive has two entries then, so that the drive mounts with the third, and whether the history is full with it.
 fn told_in_turn<R: Threads + Wait + Sync>(
     rt: &R,
     alloc: Global,
@@ -240,10 +254,12 @@ fn told_in_turn<R: Threads + Wait + Sync>(
     let archive = archive_of(alloc, keys)?;
     match two_passes(alloc, archive) {
         Ok((hall, first, second)) => {
-            let (passed, mut all) = in_turn(rt, &hall, (first, second), puts);
-            let (mounted, filled) = asks_and_fills(rt, &hall, &mut all, c);
-            hall.close(all).let_go();
-            Some((passed, mounted, filled))
+            let (passed, all) = in_turn(rt, &hall, (first, second), puts);
+            let mut archive = hall.close(all);
+            let third = mounts_with(&mut archive, 3);
+            let filled = is_filled(&mut archive, c);
+            archive.let_go();
+            Some((passed, third, filled))
         }
         Err(archive) => {
             archive.let_go();
@@ -252,12 +268,12 @@ fn told_in_turn<R: Threads + Wait + Sync>(
     }
 }
 
-// Two threads put a file each at once: whether both files are there.
+// Two threads put a file each at once: whether both files are there, and the drive mounts with the third entry.
 fn told_at_once<R: Threads + Wait + Sync>(
     rt: &R,
     alloc: Global,
     keys: RandomState,
-) -> Option<bool> {
+) -> Option<(bool, bool)> {
     let (a, b) = two_puts(alloc)?;
     let look = look_of(alloc)?;
     let archive = archive_of(alloc, keys)?;
@@ -265,8 +281,9 @@ fn told_at_once<R: Threads + Wait + Sync>(
         Ok((hall, first, second)) => {
             let mut all = both(rt, &hall, first, second, a, b);
             let seen = sees_both(rt, &hall, &mut all, look);
+            let third = mounts_in_turn(rt, &hall, &mut all, 3);
             hall.close(all).let_go();
-            Some(seen)
+            Some((seen, third))
         }
         Err(archive) => {
             archive.let_go();
@@ -286,6 +303,6 @@ fn passed_tells_of_turns_of_others(rt: HostRuntime) -> Result<(), Fail> {
 #[test]
 fn two_threads_put_one_file_each(rt: HostRuntime) -> Result<(), Fail> {
     let keys = RandomState::new(&rt)?;
-    assert_eq!(rt; told_at_once(&rt, rt.alloc(), keys), Some(true));
+    assert_eq!(rt; told_at_once(&rt, rt.alloc(), keys), Some((true, true)));
     Ok(())
 }

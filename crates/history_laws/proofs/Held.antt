@@ -4,11 +4,11 @@ use Rattle.cta_site.specs.declared.site.Site.{Site}
 use Rattle.cta_model.specs.History.{History}
 use Rattle.cta_model.specs.Legal.{IsLegal}
 use Rattle.cta_laws.proofs.ClosedLaw.{claims_nothing_after_end}
-use Rattle.cta_laws.proofs.CopyLaw.{no_copy_is_lost}
+use Rattle.cta_laws.proofs.CopyLaw.{places_are_never_reclaimed}
 use Rattle.cta_laws.proofs.EndLaw.{ends_for_good, no_claim_after_end, stale_after_end}
 use Rattle.cta_laws.proofs.FlushedLaw.{tape_is_flushed}
 use Rattle.cta_laws.proofs.JobLaw.{is_queued_or_claimed}
-use Rattle.cta_laws.proofs.LostLaw.{no_file_is_lost, stays_resident}
+use Rattle.cta_laws.proofs.LostLaw.{resident_or_flushed, stays_resident}
 use Rattle.cta_laws.proofs.OnceLaw.{completes_once}
 use Rattle.cta_laws.proofs.OpenMounts.{legal_older}
 use Rattle.cta_laws.proofs.PlaceLaw.{places_stay}
@@ -21,7 +21,7 @@ cut : (site : Site) (h newer older : History) → IsLegal site h → h ≡ newer
 cut site h newer older legal is = legal_older site newer older (subst (IsLegal site) is legal)
 
 hold_files : (site : Site) (h : History) → IsLegal site h → HoldsFiles site h
-hold_files site h legal = record { tape_is_flushed = λ f says. tape_is_flushed site h f says; no_file_is_lost = λ f live. no_file_is_lost site h legal f live }
+hold_files site h legal = record { tape_is_flushed = λ f says. tape_is_flushed site h f says; resident_or_flushed = λ f live. resident_or_flushed site h legal f live }
 
 hold_recalls : (site : Site) (h : History) → IsLegal site h → HoldsRecalls site h
 hold_recalls site h legal = record {
@@ -48,7 +48,7 @@ hold_mounts site h legal = record {
 hold_copies : (site : Site) (h : History) → IsLegal site h → HoldsCopies site h
 hold_copies site h legal = record {
   places_stay = λ newer older f c is had live. rw is (places_stay newer older f c had (rw is at live));
-  no_copy_is_lost = λ newer older e f c p is placed made last. rw is (no_copy_is_lost site newer older e (subst (IsLegal site) is legal) f c p (rw is at placed) made last);
+  places_are_never_reclaimed = λ newer older e f c p is placed made last. rw is (places_are_never_reclaimed site newer older e (subst (IsLegal site) is legal) f c p (rw is at placed) made last);
 }
 
 pub legal_histories_hold : LegalHistoriesHold

@@ -29,10 +29,10 @@ use Rattle.cta_laws.specs.Recalls.{completes, completions, is_kept}
 
 -- ---- files
 
--- a file is said to be on tape only where each copy of its class was flushed; and each live file is in the buffer, or each copy was flushed
+-- a file is said to be on tape only where each copy of its class was flushed; and each live file is in the buffer, or each copy was flushed once
 pub record HoldsFiles (site : Site) (h : History) : Type 0 where
   pub tape_is_flushed : (f : ℕ) → SaysTape (locality_of site h f) → EachCopyWasFlushed site h f
-  pub no_file_is_lost : (f : ℕ) → is_live h f ≡ true → (is_resident h f ≡ true) ⊎ EachCopyWasFlushed site h f
+  pub resident_or_flushed : (f : ℕ) → is_live h f ≡ true → (is_resident h f ≡ true) ⊎ EachCopyWasFlushed site h f
 
 -- ---- recalls and jobs
 
@@ -59,11 +59,11 @@ pub record HoldsMounts (site : Site) (h : History) : Type 0 where
 
 -- ---- copies
 
--- a live file that had a place of a copy has one still; and where an entry made the place that a copy has, no later entry reclaims its tape, and the place's fSeq is
--- below the tape's next: so also through every repack
+-- no copy is lost: a live file that had a place of a copy has one still; and where an entry made the place that a copy has, no later entry reclaims its tape, and the
+-- place's fSeq is below the tape's next: so also through every repack
 pub record HoldsCopies (site : Site) (h : History) : Type 0 where
   pub places_stay : (newer older : History) (f c : ℕ) → h ≡ newer ++ older → IsSome (place_of older f c) → is_live h f ≡ true → IsSome (place_of h f c)
-  pub no_copy_is_lost : (newer older : History) (e : Entry) (f c : ℕ) (p : Place) → h ≡ newer ++ e ∷ older → place_of h f c ≡ Some p → flushes f c e ≡ true → list_any (flushes f c) newer ≡ false
+  pub places_are_never_reclaimed : (newer older : History) (e : Entry) (f c : ℕ) (p : Place) → h ≡ newer ++ e ∷ older → place_of h f c ≡ Some p → flushes f c e ≡ true → list_any (flushes f c) newer ≡ false
       → (p.tape ≡ tape_of_mount older (asked_mount e.ask)) × (list_any (λ (x : Entry). reclaims p.tape x.ask) newer ≡ false) × (p.fseq < next_fseq h p.tape)
 
 -- ---- all

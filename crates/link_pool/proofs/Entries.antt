@@ -121,6 +121,14 @@ module _ {L : Type 0} where
   rises_snoc k n [] link le all r = (le, tt)
   rises_snoc k n (x ∷ xs) link le all r = let lt : x.number < n = all 0 x refl in (r.0, rises_snoc (x.number + 1) n xs link (omega arith) (λ j u e. all (suc j) u e) r.1)
 
+  -- rising numbers between two bounds are few
+  pub rises_few : (k n : ℕ) (xs : List (Passed L)) → k ≤ n → Each (λ e. e.number < n) xs → RisesFrom k xs → k + length xs ≤ n
+  rises_few k n [] le all r = omega arith
+  rises_few k n (x ∷ xs) le all r =
+      let low : k ≤ x.number = r.0 in
+      let high : x.number < n = all 0 x refl in
+      let rest : x.number + 1 + length xs ≤ n = rises_few (x.number + 1) n xs (omega arith) (λ j u e. all (suc j) u e) r.1 in omega arith
+
   -- ---- numbering
   pub numbered_snoc : (n : ℕ) (xs : List L) (x : L) → numbered n (xs ++ x ∷ []) ≡ numbered n xs ++ passed (n + length xs) x ∷ []
   numbered_snoc n [] x = ap (λ k. passed k x ∷ []) (nothing n)

@@ -1,5 +1,5 @@
 -- Each step keeps the rule of a pool.
-use Rattle.std.proofs.Common.{◌≡◌, ◌≢◌, ℕ, ◌+◌, ◌-◌, ◌<◌, ◌≤◌, ◌==◌, Bool, true, false, List, [], ◌∷◌, ◌++◌, set, length, length-append, append_assoc, append-nil, refl, sym, ap, ◌∙◌, subst, ⊎_elim, inl, inr, Result, Ok, Err, MatchResult, Option, Some, None, MatchOption, ◌⊎◌, arith}
+use Rattle.std.proofs.Common.{◌≡◌, ◌≢◌, ℕ, zero, suc, ◌+◌, ◌-◌, ◌<◌, ◌≤◌, ◌==◌, Bool, true, false, List, [], ◌∷◌, ◌++◌, set, length, length-append, append_assoc, append-nil, refl, sym, ap, ◌∙◌, subst, ⊎_elim, inl, inr, Result, Ok, Err, MatchResult, Option, Some, None, MatchOption, ◌⊎◌, arith}
 use native.Mathlib.Decide.{ℕ_discrete, dec_lt}
 use mathlib.Core.Logic.{dite}
 use mathlib.Core.Option.{some, some-ne-none}
@@ -9,9 +9,9 @@ use Rattle.crossbeam_queue.proofs.Lists.{at_set, at_snoc, at_longer, set_else}
 use Rattle.link_pool.specs.declared.views.Passed.{Passed}
 use Rattle.link_pool.specs.declared.views.PoolView.{PoolView}
 use Rattle.link_pool.specs.Entries.{total, one_if, Between, passed, numbered, RisesFrom, count_of, merged}
-use Rattle.link_pool.specs.Pooled.{with_put, with_got, keeping, single, joined, spent, parts_of, door_of, got_at, IsOut, Fits, Pooled, IsBack, IsEmptied, TakesNext, Stays}
+use Rattle.link_pool.specs.Pooled.{with_put, with_got, keeping, single, joined, spent, parts_of, door_of, got_at, whole, HasPutAll, IsOut, Fits, Pooled, IsBack, IsEmptied, TakesNext, Stays}
 use Rattle.link_pool.proofs.Totals.{total_set, total_same, total_append, total_has, total_alone, total_only}
-use Rattle.link_pool.proofs.Entries.{each_merged, each_snoc, count_merged, count_snoc, one_here, one_else, rises_merged, rises_snoc, numbered_snoc, numbered_length, all_numbered}
+use Rattle.link_pool.proofs.Entries.{each_merged, each_snoc, count_merged, count_snoc, one_here, one_else, rises_few, rises_merged, rises_snoc, numbered_snoc, numbered_length, all_numbered}
 
 bool_not : (b : Bool) → one_if b ≡ 0 → b ≡ false
 bool_not true e = absurd (omega (arith, e))
@@ -98,8 +98,38 @@ module _ {L : Type 0} where
       next : (a b : ℕ) → a ≡ b → a + 1 ≡ 1 + b
       next a b e = omega arith
 
+  at_front : (gone items : List L) (m : ℕ) (x : L) → m < length gone → get_elem? (gone ++ items) m ≡ some x → get_elem? gone m ≡ some x
+  at_front [] items m x lt a = absurd (omega arith)
+  at_front (y ∷ gone) items zero x lt a = a
+  at_front (y ∷ gone) items (suc m) x lt a = at_front gone items m x (omega arith) a
+
+  -- a view that has got some links has got no more than were got
+  got_few : (out : ℕ) (log : List L) (v : PoolView L) → Fits out log v → length v.got ≤ out
+  got_few out log v f =
+      let few : 1 + length v.got ≤ out + 1 = rises_few 1 (out + 1) v.got (omega arith) (λ j e a. (let o = f.took j e a in let is = o.1 in let lt = o.2 in omega arith)) f.rises in omega arith
+
+  -- a view with all parts is the door, and has got all that was got
+  all_got : (id : ℕ) (v : PoolView L) (items : List L) (views : List (PoolView L)) (h : Pooled items views) → get_elem? views id ≡ some v → v.parts ≡ whole → (v.got ≡ numbered 1 h.gone) × (v.door ≡ true)
+  all_got id v items views h at all =
+      let mine = h.each id v at in
+      let idle : (j : ℕ) (u : PoolView L) → j ≢ id → get_elem? views j ≡ some u → (u.got ≡ []) × (u.door ≡ false) = λ j u ne a.
+      (h.each j u a).idle (total_alone parts_of views id j v u at a (λ e. ne (sym e)) (all ∙ sym h.parts)) in
+      let door : door_of v ≡ 1 = sym (total_only door_of views id v at (λ j u ne a. ap one_if (idle j u ne a).1)) ∙ h.doors in
+      let count : (n : ℕ) → Between n 1 (length h.gone + 1) (count_of n v.got) = λ n.
+      subst (λ t. Between n 1 (length h.gone + 1) t) (total_only (got_at n) views id v at (λ j u ne a. ap (count_of n) (idle j u ne a).0)) (h.got n) in (
+        all_numbered 1 h.gone v.got mine.rises (λ n low lt. (count n).1 low (omega arith)) (λ n le. (count n).2 (omega arith))
+            (λ j e a. let o = mine.took j e a in (o.0, omega (arith, o.1), at_front h.gone items o.0 e.link o.2 o.3)),
+        bool_is v.door door,
+      )
+    where
+      bool_is : (b : Bool) → one_if b ≡ 1 → b ≡ true
+      bool_is true e = refl
+      bool_is false e = absurd (omega (arith, e))
+
   pub backs : (id : ℕ) (v : PoolView L) → v.door ≡ true → Learns Pooled id v (IsBack v)
-  backs id v is items views h at = (h.gone, (h.each id v at).door is)
+  backs id v is items views h at =
+      let mine = h.each id v at in
+      (h.gone, mine.door is, got_few (length h.gone) (h.gone ++ items) v mine, λ all. (all_got id v items views h at all).0)
 
   pub gets : (id : ℕ) (v : PoolView L) → 0 < v.parts → Pops Pooled id v (λ x w. TakesNext v x w)
   gets id v some_part x items views h at =
@@ -149,20 +179,9 @@ module _ {L : Type 0} where
 
   pub empties : (id : ℕ) (v : PoolView L) → Learns Pooled id v (IsEmptied v)
   empties id v items views h at none all =
-      let mine = h.each id v at in
-      let log : List L = h.gone ++ items in
-      let long : length log ≡ length h.gone = ap (λ l. length (h.gone ++ l)) none ∙ ap length (append-nil h.gone) in
-      let idle : (j : ℕ) (u : PoolView L) → j ≢ id → get_elem? views j ≡ some u → (u.got ≡ []) × (u.door ≡ false) = λ j u ne a.
-      (h.each j u a).idle (total_alone parts_of views id j v u at a (λ e. ne (sym e)) (all ∙ sym h.parts)) in
-      let door : door_of v ≡ 1 = sym (total_only door_of views id v at (λ j u ne a. ap one_if (idle j u ne a).1)) ∙ h.doors in
-      let count : (n : ℕ) → Between n 1 (length h.gone + 1) (count_of n v.got) = λ n.
-      subst (λ t. Between n 1 (length h.gone + 1) t) (total_only (got_at n) views id v at (λ j u ne a. ap (count_of n) (idle j u ne a).0)) (h.got n) in
-      all_numbered 1 log v.got mine.rises (λ n low lt. (count n).1 low (omega arith)) (λ n le. (count n).2 (omega arith)) (λ j e a. let o = mine.took j e a in (o.0, omega (arith, o.1), o.3))
-      ∙ sym (mine.door (bool_is v.door door))
-    where
-      bool_is : (b : Bool) → one_if b ≡ 1 → b ≡ true
-      bool_is true e = refl
-      bool_is false e = absurd (omega (arith, e))
+      let got = all_got id v items views h at all in
+      let log : h.gone ++ items ≡ h.gone = ap (λ l. h.gone ++ l) none ∙ append-nil h.gone in
+      got.0 ∙ ap (numbered 1) (sym log) ∙ sym ((h.each id v at).door got.1)
 
   pub forks : (id : ℕ) (v : PoolView L) → 1 < v.parts → Forks Pooled id v (keeping v) single
   forks id v two items views h at =
@@ -220,11 +239,19 @@ module _ {L : Type 0} where
       at_most : (n t p q out : ℕ) → Between n 1 (out + 1) t → p + q ≤ t → p + q ≤ 1
       at_most n t p q out b le = let m = between_most n t 1 (out + 1) b in omega arith
 
-  -- a pool that held so many links at the end of what the door has put got at least so many from it
-  pub holds_no_more : (n : ℕ) (v : PoolView L) → Held n (IsBack v) → n ≤ length v.put
-  holds_no_more n v h = let items = h.0 in let gone = h.2.0 in
-      let l : length v.put ≡ length (gone ++ items) = ap length h.2.1 ∙ numbered_length 1 (gone ++ items) in
-      let a = length-append gone items in let e = h.1 in omega arith
+  -- a pool that held so many links at the end of what the door has put got at least so many from it, beside those that the door has got
+  pub has_put_all : (n : ℕ) (v : PoolView L) → Held n (IsBack v) → HasPutAll n v
+  has_put_all n v h =
+      let items = h.0 in
+      let gone = h.2.0 in
+      let long : length v.put ≡ length (gone ++ items) = ap length h.2.1 ∙ numbered_length 1 (gone ++ items) in
+      let both = length-append gone items in
+      let held = h.1 in
+      let few = h.2.2 in
+      record {
+        put = omega arith;
+        full = λ all. (let got : length v.got ≡ length gone = ap length (h.2.3 all) ∙ numbered_length 1 gone in omega arith);
+      }
 
   -- a take leaves all but what was got as it was
   pub stays : (X : Type 0) (v w : PoolView L) (r : Option L) → MatchOption r ((w ≡ v) × X) (λ x. TakesNext v x w) → Stays v w

@@ -1,5 +1,5 @@
 -- The rule of a pool: what it holds, and what each pass knows.
-use Rattle.std.specs.Prelude.{ℕ, ◌+◌, ◌<◌, ◌≡◌, ◌-◌, Bool, true, false, List, [], ◌∷◌, ◌++◌, length}
+use Rattle.std.specs.Prelude.{ℕ, ◌+◌, ◌<◌, ◌≤◌, ◌≡◌, ◌-◌, Bool, true, false, List, [], ◌∷◌, ◌++◌, length}
 use mathlib.Core.Option.{some}
 use lib.ListN.{get_elem?}
 use Rattle.link_pool.specs.declared.views.Passed.{Passed}
@@ -69,9 +69,14 @@ module _ {L : Type 0} where
     pub got : (n : ℕ) → Between n 1 (length gone + 1) (total (got_at n) views)
     pub parts : total parts_of views ≡ whole
 
-  -- what the pool holds is the end of what the door has put
+  -- what the pool holds is the end of what the door has put, and no link that the door has got; where all parts are here, what the door has got is all the rest
   abbrev pub IsBack : PoolView L → List L → Type 0
-  IsBack v items = (gone : List L) × (v.put ≡ numbered 1 (gone ++ items))
+  IsBack v items = (gone : List L) × (v.put ≡ numbered 1 (gone ++ items)) × (length v.got ≤ length gone) × (v.parts ≡ whole → v.got ≡ numbered 1 gone)
+
+  -- the door has put as many links as the pool can hold, beside those that it has got; where all parts are here, the pool holds as many links as it can
+  pub record HasPutAll (capacity : ℕ) (v : PoolView L) : Type 0 where
+    pub put : capacity + length v.got ≤ length v.put
+    pub full : v.parts ≡ whole → length v.put ≡ length v.got + capacity
 
   -- where all parts are here and the pool holds nothing, what was got is what was put
   abbrev pub IsEmptied : PoolView L → List L → Type 0

@@ -2,7 +2,7 @@
 ghost use Rattle.std.specs.Prelude.{◌≡◌, ◌<◌, ◌≤◌, ◌+◌, ◌-◌, true, false, IfOk, IfNone, MatchResult, MatchOption, length};
 ghost use Rattle.crossbeam_queue.specs.Passes.{view, IsPassOf};
 ghost use Rattle.crossbeam_queue.specs.Fifo.{Held};
-ghost use Rattle.link_pool.specs.Pooled.{fresh, keeping, single, joined, with_put, whole, IsBack, IsEmptied, TakesNext, Stays};
+ghost use Rattle.link_pool.specs.Pooled.{fresh, keeping, single, joined, with_put, whole, HasPutAll, IsBack, IsEmptied, TakesNext, Stays};
 
 use crate::views::{Cut, Gets, InOrder, PoolView, Puts};
 use crossbeam_queue::protocol::Protocol;
@@ -43,19 +43,20 @@ impl<L> Pool<L> {
         Ok((RuledPool { queue }, pass))
     }
 
-    /// Puts a link in at the back, through the door. The link comes back only where the pool was full at one moment of the call: it
-    /// then held the last links that the door has put, as many as its capacity.
+    /// Puts a link in at the back, through the door. The link may come back once the door has put as many links as the pool can
+    /// hold, beside those that it has got itself; through a door with all parts it comes back only where the pool is full. That the
+    /// pool was full at a moment of the call is what the queue does, and no clause can name that moment.
     pub fn offer<R: Wait>(&self, rt: &R, pass: &mut PoolPass<L>, link: L) -> Result<(), L>
         requires here { IsPassOf self.now.queue pass.old }
         requires door { (view pass.old).door ≡ true }
         ensures here { IsPassOf self.now.queue pass.new }
-        ensures put { MatchResult result (λ _. view pass.new ≡ with_put (view pass.old) link) (λ back. (back ≡ link) × (view pass.new ≡ view pass.old) × Held self.now.queue.cap (IsBack (view pass.old)) × (self.now.queue.cap ≤ length (view pass.old).put)) }
+        ensures put { MatchResult result (λ _. view pass.new ≡ with_put (view pass.old) link) (λ back. (back ≡ link) × (view pass.new ≡ view pass.old) × Held self.now.queue.cap (IsBack (view pass.old)) × HasPutAll self.now.queue.cap (view pass.old)) }
     {
         self.queue.push_as::<Puts, R>(rt, pass, link)
     }
 
-    /// Takes the link at the front. `None` comes only where the pool was empty at one moment of the call; a pass with all parts has
-    /// then got all that was put.
+    /// Takes the link at the front. To a pass with all parts `None` comes only where it has got all that was put; to another pass it
+    /// may always come. That the pool was empty at a moment of the call is what the queue does, and no clause can name that moment.
     pub fn take<R: Wait>(&self, rt: &R, pass: &mut PoolPass<L>) -> Option<L>
         requires here { IsPassOf self.now.queue pass.old }
         requires some { 0 < (view pass.old).parts }

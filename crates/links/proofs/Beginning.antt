@@ -1,5 +1,5 @@
 -- A record of which nothing has come.
-use Rattle.std.proofs.Common.{◌≡◌, ℕ, List, [], ◌∷◌, ◌++◌, sym, ◌∙◌, subst, append_assoc, append-nil, inl, inr}
+use Rattle.std.proofs.Common.{ℕ, List, [], ◌∷◌, ◌++◌, sym, ◌∙◌, subst, append_assoc, append-nil, inl, inr}
 use Rattle.std.proofs.lemmas.Bool.{cases_eq}
 use Rattle.conn.specs.Stands.{Settled}
 use Rattle.links.specs.Run.{Turn, bytes_on, events_on, Completes, IsRunBehind}

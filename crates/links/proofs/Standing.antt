@@ -5,7 +5,8 @@ use Rattle.std.proofs.lemmas.Bool.{cases_eq}
 use Rattle.std.proofs.lemmas.Grind.{flat_map-append}
 use Rattle.std.proofs.lemmas.Option.{same_Some}
 use Rattle.conn.specs.Cut.{Event}
-use Rattle.conn.specs.Stands.{StandsAt, Ended, Unfinished, Settled, IsOver, limit_of, rest_of, next_events, UnlessLast, HasCompletion, HasRoom, left, given_by, GivesNext}
+use Rattle.conn.specs.Held.{IsOver}
+use Rattle.conn.specs.Stands.{StandsAt, Ended, Unfinished, Settled, limit_of, rest_of, next_events, UnlessLast, HasCompletion, HasRoom, left, given_by, GivesNext}
 use Rattle.conn.specs.declared.connection.Conn.{Conn}
 use Rattle.conn.specs.declared.state.State.{State}
 use Rattle.conn.specs.declared.state.State.TheVariants as state

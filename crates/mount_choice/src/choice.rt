@@ -1,6 +1,7 @@
 // The first of candidates.
-ghost use Rattle.std.specs.Prelude.{◌≡◌, None, Some};
+ghost use Rattle.std.specs.Prelude.{◌≡◌, [], MatchOption, None, Some};
 ghost use Rattle.cta_model.specs.Choice as said;
+ghost use Rattle.mount_choice.specs.First.{IsFirst};
 
 use cta_model::{Candidate, Direction};
 
@@ -8,7 +9,9 @@ use cta_model::{Candidate, Direction};
 /// birth of its first job, then the lowest key. None exactly where the list is empty. Of candidates that are the same in
 /// all four, it is the first of the list. Its cost is their number, and it takes no memory.
 pub fn first_of(list: &[Candidate]) -> Option<Candidate>
-    ensures { result ≡ said.first_of list.now }
+    ensures said { result ≡ said.first_of list.now }
+    // The same, in the words of the rule.
+    ensures first { MatchOption result (list.now ≡ []) (IsFirst list.now) }
 {
     let mut best = None;
     for at in (0..list.len()).rev() {

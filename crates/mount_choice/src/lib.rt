@@ -2,5 +2,7 @@
 #![tactic(auto)]
 
 mod choice;
+mod laws;
 
 pub use choice::first_of;
+pub use laws::choice_is_least;

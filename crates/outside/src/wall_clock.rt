@@ -1,5 +1,6 @@
 // The machine's clock.
-ghost use Rattle.std.specs.Prelude.{◌≤◌};
+ghost use Rattle.std.specs.Prelude.{◌≡◌, ◌≤◌, min};
+ghost use Rattle.outside.specs.Machine.{whole_seconds};
 
 use crate::Clock;
 use std::time;
@@ -14,6 +15,16 @@ pub struct WallClock<'a, R: time::Clock> {
     rt: &'a R,
 }
 
+// The whole seconds since 1970, cut to the greatest moment.
+fn moment_of(time: SystemTime) -> u64
+    ensures { result ≡ min (whole_seconds time) 253402300799 }
+{
+    match time.duration_since(SystemTime::UNIX_EPOCH) {
+        Ok(since) => since.as_secs().min(GREATEST),
+        Err(_) => 0,
+    }
+}
+
 impl<'a, R: time::Clock> WallClock<'a, R> {
     /// The clock of this runtime.
     pub fn new(rt: &'a R) -> WallClock<'a, R> {
@@ -23,11 +34,8 @@ impl<'a, R: time::Clock> WallClock<'a, R> {
 
 impl<R: time::Clock> Clock for WallClock<'_, R> {
     fn now(&mut self) -> u64 {
-        let Ok(now) = SystemTime::now(self.rt) else {
-            return 0;
-        };
-        match now.duration_since(SystemTime::UNIX_EPOCH) {
-            Ok(since) => since.as_secs().min(GREATEST),
+        match SystemTime::now(self.rt) {
+            Ok(time) => moment_of(time),
             Err(_) => 0,
         }
     }

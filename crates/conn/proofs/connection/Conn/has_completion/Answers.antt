@@ -1,5 +1,3 @@
-use Rattle.std.proofs.Common.{drop, ap, ◌∙◌}
-use Rattle.std.proofs.lemmas.List.{take_rest}
 use Rattle.conn.specs.Stands.{Between, rest_of}
 use Rattle.conn.proofs.Completions.{between_completion}
 use Rattle.conn.proofs.connection.Conn.has_completion.Goals as goal
@@ -8,4 +6,4 @@ pub returns-in-AtHead : goal.returns-in-AtHead
 returns-in-AtHead c = λ fed given s.
     let conn = c.args.self.now in
     let between : Between conn.limit (rest_of conn) fed given = rw c.in-AtHead.is at s in
-    between_completion conn.limit (rest_of conn) _ fed given between (take_rest c.deref.result.now conn.at ∙ ap (drop conn.at) c.deref.ensures.value) c.has_cut.ensures
+    between_completion conn.limit (rest_of conn) _ fed given between c.unread-rest.ensures c.has_cut.ensures

@@ -1,0 +1,112 @@
+// A connection of std as a link.
+ghost use Rattle.std.specs.Prelude.{◌≡◌, None, true, false, IsNone, IfSome, IsOk, IsErr, OnOk};
+ghost use Rattle.std.specs.Io.{ReadsAtMost};
+ghost use Rattle.std.specs.Io.KnownBytes.{ReadConsumes};
+ghost use Rattle.outside.specs.Causes.{HasCause};
+ghost use Rattle.outside.specs.Streams.{SendsWhole, WritesWhole};
+
+use crate::writing::write_whole;
+use crate::{Failed, Link};
+use std::io;
+use std::io::{Read, Write};
+use std::net::{OpenStream, Shutdown, TcpStream};
+use std::time::Duration;
+
+/// A connection with no delay of small pieces, and with time-outs: a read or a write that waits longer fails. As a link it tells no
+/// bytes, since std doesn't say that a call on one side of a connection leaves the other as it was. What a call does to the bytes of its
+/// own side, where the connection tells them, is in the clauses `taken` and `sent`.
+#[derive(Drop)]
+pub struct StreamLink<S> {
+    // None where the machine refused one of the settings.
+    stream: Option<S>,
+    read_faults: u64,
+    write_faults: u64,
+}
+
+/// A TCP connection as a link.
+pub type TcpLink = StreamLink<TcpStream>;
+
+// Sets what a link needs of a connection.
+fn set<S: OpenStream>(stream: &S, longest: Duration) -> io::Result<()> {
+    stream.set_nodelay(true)?;
+    stream.set_read_timeout(Some(longest))?;
+    stream.set_write_timeout(Some(longest))
+}
+
+impl<S: Read + Write + OpenStream + Drop> StreamLink<S> {
+    ghost use Rattle.outside.specs.Machine.{connection, connection_read_faults, connection_write_faults};
+
+    /// A link over the connection. `longest` is how long a read or a write may wait, above 0. Where the machine refuses a setting,
+    /// the connection is let go, and each read and write fails and counts.
+    pub fn over(stream: S, longest: Duration) -> StreamLink<S>
+        ensures faults { (connection_read_faults result ≡ 0) × (connection_write_faults result ≡ 0) }
+        ensures same { IfSome (connection result) (λ s. s ≡ stream) }
+    {
+        let stream = set(&stream, longest).ok().map(|()| stream);
+        StreamLink {
+            stream,
+            read_faults: 0,
+            write_faults: 0,
+        }
+    }
+}
+
+impl<S: Read + Write + OpenStream> Link for StreamLink<S> {
+    ghost use Rattle.outside.specs.Machine.{connection_left, connection_written, connection, connection_read_faults, connection_write_faults};
+
+    ghost left = { λ _. None };
+
+    ghost written = { λ _. None };
+
+    ghost read_faults = { λ l. connection_read_faults l };
+
+    ghost write_faults = { λ l. connection_write_faults l };
+
+    ghost firm = { λ _. false };
+
+    /// Gives the bytes that the connection gives. It fails where the connection failed.
+    fn read(&mut self, to: &mut [u8]) -> Result<usize, Failed>
+        ensures bound { ReadsAtMost result to.new }
+        ensures bytes { ReadConsumes None None result to.new }
+        ensures cause { HasCause (connection_read_faults self.old) (connection_read_faults self.new) result }
+        ensures other { connection_write_faults self.new ≡ connection_write_faults self.old }
+        ensures firm { (false ≡ false) × (false ≡ true → IsOk result) }
+        ensures taken { ReadConsumes (connection_left S.remaining self.old) (connection_left S.remaining self.new) result to.new }
+        ensures faultless { OnOk result (connection_read_faults self.new ≡ connection_read_faults self.old) }
+        ensures none { IsNone (connection self.old) → IsErr result }
+    {
+        if let Some(stream) = &mut self.stream {
+            if let Ok(count) = stream.read(to) {
+                return Ok(count);
+            }
+        }
+        self.read_faults = self.read_faults.saturating_add(1);
+        Err(Failed)
+    }
+
+    /// Writes the piece to the connection. It fails where the connection failed or took nothing.
+    fn write_all_of(&mut self, piece: &[u8]) -> Result<(), Failed>
+        ensures bytes { SendsWhole None None result piece.now }
+        ensures cause { HasCause (connection_write_faults self.old) (connection_write_faults self.new) result }
+        ensures other { connection_read_faults self.new ≡ connection_read_faults self.old }
+        ensures firm { (false ≡ false) × (false ≡ true → IsOk result) }
+        ensures sent { WritesWhole (connection_written S.contents self.old) (connection_written S.contents self.new) result piece.now }
+        ensures faultless { OnOk result (connection_write_faults self.new ≡ connection_write_faults self.old) }
+        ensures none { IsNone (connection self.old) → IsErr result }
+    {
+        if let Some(stream) = &mut self.stream {
+            if write_whole(stream, piece).is_ok() {
+                return Ok(());
+            }
+        }
+        self.write_faults = self.write_faults.saturating_add(1);
+        Err(Failed)
+    }
+
+    /// Ends both sides of the connection. Where the other end has ended it before, nothing is left to do.
+    fn close(&mut self) {
+        if let Some(stream) = &self.stream {
+            let _ = stream.shutdown(Shutdown::Both);
+        }
+    }
+}
