@@ -5,7 +5,7 @@ use Rattle.std.proofs.lemmas.List.{append-nil, reverse-append, reverse-reverse, 
 use mathlib.Core.List.{IsPrefix}
 use mathlib.Core.Option.{some, some-injective, some-ne-none}
 use lib.ListN.{get_elem?}
-use Rattle.blob.specs.Records.{TapeRecords}
+use Rattle.blob.specs.Records.{MediumView}
 use Rattle.cta_site.specs.declared.site.Site.{Site}
 use Rattle.cta_model.specs.declared.entries.Entry.{Entry}
 use Rattle.cta_model.specs.History.{History}
@@ -111,7 +111,7 @@ behind_apart asked xs ys begins unasked =
 pub reverse_behind : (xs ys : List Entry) → (begins : IsPrefix xs ys) → reverse ys ≡ reverse begins.0 ++ reverse xs
 reverse_behind xs ys begins = ap reverse (sym begins.1) ∙ reverse-append xs begins.0
 
-module _ {M : Type 0} (told : M → Option TapeRecords) where
+module _ {M : Type 0} (told : M → MediumView) where
   pub grows : CallAddsOrKeeps told → Grows told
   grows law site xs c b ys plays = grown_in_order xs ys (call_adds c b) (law site (reverse xs) c b (reverse ys) plays)
 

@@ -5,7 +5,7 @@ use Rattle.std.proofs.lemmas.Bool.{eq-eqb}
 use Rattle.std.proofs.lemmas.List.{length-reverse}
 use mathlib.Core.Option.{some}
 use lib.ListN.{get_elem?}
-use Rattle.blob.specs.Records.{TapeRecords}
+use Rattle.blob.specs.Records.{MediumView}
 use Rattle.cta_site.specs.declared.site.Site.{Site}
 use Rattle.cta_model.specs.declared.entries.Entry.{Entry}
 use Rattle.cta_model.specs.declared.asks.Ask.TheVariants as ask
@@ -42,7 +42,7 @@ made_open h e m d way tape number asked answered =
     let hit : (m == length h + 1) ≡ true = eq-eqb m (length h + 1) number in
     (rw asked (rw answered (rw hit refl)), rw hit (rw asked (rw answered refl)))
 
-module _ {M : Type 0} (told : M → Option TapeRecords) where
+module _ {M : Type 0} (told : M → MediumView) where
   pub next_opens : CallOpens Site {E = Entry} {C = ArchiveCall M} {B = ArchiveBack M} topic_of call_adds → EntriesNameTheirMounts told → NextOpens told
   next_opens opens names site v w at d m way tape in_hand x turn =
       let c : ArchiveCall M = call.Ask at (ask.Next d) in_hand in

@@ -1,7 +1,7 @@
 -- What an archive answers to an ask is what a turn is answered.
 use Rattle.std.proofs.Common.{◌≡◌, ℕ, Bool, true, false, refl, ap, ◌∙◌, ◌∷◌}
 use Rattle.std.specs.Prelude.{Option, if◌then◌else◌, Result, Ok, Err, IfOk, IfErr, OnErr}
-use Rattle.blob.specs.Records.{TapeRecords}
+use Rattle.blob.specs.Records.{MediumView}
 use Rattle.cta_site.specs.declared.site.Site.{Site}
 use Rattle.cta_site.specs.declared.no_memory.NoMemory.{NoMemory}
 use Rattle.cta_model.specs.declared.asks.Ask.{Ask}
@@ -11,8 +11,8 @@ use Rattle.cta_model.specs.declared.hands.Hand.{Hand}
 use Rattle.cta_model.specs.History.{History}
 use Rattle.cta_model.specs.Answers.{answer_of, is_accepted}
 use Rattle.cta_model.specs.Bare.{bare_answer, bare_ask}
-use Rattle.cta_model.specs.Hands.{HandBack, HandOut}
-use Rattle.cta_model.specs.Kept.{Kept, kept_after}
+use Rattle.cta_model.specs.Hands.{HandBack, HandOut, medium_in}
+use Rattle.cta_model.specs.Kept.{Kept, kept_after, shelf_after}
 use Rattle.cta_model.specs.Legal.{new_entry}
 use Rattle.archive_turns.specs.declared.calls.ArchiveCall.TheVariants as call
 use Rattle.archive_turns.specs.declared.calls.ArchiveBack.TheVariants as back
@@ -26,11 +26,12 @@ answer_of-bare site h t _ = refl
 
 -- ---- what is kept
 
-entry_or_none : (b : Bool) (kept : Kept) (t : ℕ) (k : Ask) (a : Answer) → (if b then record kept { history = new_entry kept.history t k a ∷ kept.history } else kept).history ≡ (if b then new_entry kept.history t k a ∷ kept.history else kept.history)
-entry_or_none true kept t k a = refl
-entry_or_none false kept t k a = refl
+entry_or_none : (b : Bool) (kept : Kept) (t : ℕ) (k : Ask) (a : Answer) (brought : Option MediumView)
+    → (if b then record kept { history = new_entry kept.history t k a ∷ kept.history; shelf = shelf_after k a brought kept.shelf } else kept).history ≡ (if b then new_entry kept.history t k a ∷ kept.history else kept.history)
+entry_or_none true kept t k a brought = refl
+entry_or_none false kept t k a brought = refl
 
-module _ {M : Type 0} (told : M → Option TapeRecords) where
+module _ {M : Type 0} (told : M → MediumView) where
   -- ---- hands
 
   out-bare : (h later : History) (k : Ask) (a : Answer) (out : Hand M) → HandOut told h later (bare_ask k) a out → HandOut told h later k a out
@@ -45,12 +46,12 @@ module _ {M : Type 0} (told : M → Option TapeRecords) where
 
   pub asked : (before after : Kept) (t : ℕ) (k : Ask) (in_hand : Hand M) (r : Result (Answer × Hand M) (NoMemory × Ask × Hand M)) →
       IfOk r (λ x. bare_answer x.0 ≡ answer_of before.site before.history t (bare_ask k)) →
-      IfOk r (λ x. after ≡ kept_after before t (bare_ask k) (bare_answer x.0)) →
+      IfOk r (λ x. after ≡ kept_after before t (bare_ask k) (bare_answer x.0) (medium_in told in_hand)) →
       IfOk r (λ x. HandBack told (is_accepted (bare_answer x.0)) before.history after.history (bare_ask k) (bare_answer x.0) in_hand x.1) →
       IfErr r (λ e. (e.1 ≡ k) × (e.2 ≡ in_hand)) → OnErr r (after ≡ before) → Returns told before.site before.history (call.Ask t k in_hand) (back.Ask r) after.history
   asked before after t k in_hand (Ok (a, out)) answered kept handed again same = record {
     answered = answered ∙ answer_of-bare before.site before.history t k;
-    left = ap (λ (x : Kept). x.history) kept ∙ entry_or_none (is_accepted (bare_answer a)) before t (bare_ask k) (bare_answer a);
+    left = ap (λ (x : Kept). x.history) kept ∙ entry_or_none (is_accepted (bare_answer a)) before t (bare_ask k) (bare_answer a) (medium_in told in_hand);
     handed = back-bare (is_accepted (bare_answer a)) before.history after.history k (bare_answer a) in_hand out handed;
   }
   asked before after t k in_hand (Err (none, k', out)) answered kept handed again same = (ap (λ (x : Kept). x.history) same, again.0, again.1)

@@ -1,3 +1,4 @@
 pub use Rattle.archive_answers.specs.Kept
+pub use Rattle.archive_answers.specs.Shelf
 pub mod InOrder
 pub mod OwnMounts

@@ -1,7 +1,7 @@
 -- What a drive's pass keeps of the mount that its own Next made.
 use Rattle.std.specs.Prelude.{ℕ, ◌≡◌, ◌⊎◌, reverse, Option, Some, Ok, true}
 use mathlib.Core.List.{IsPrefix}
-use Rattle.blob.specs.Records.{TapeRecords}
+use Rattle.blob.specs.Records.{MediumView}
 use Rattle.cta_site.specs.declared.site.Site.{Site}
 use Rattle.cta_model.specs.declared.entries.Entry.{Entry}
 use Rattle.cta_model.specs.declared.asks.Ask.TheVariants as ask
@@ -11,7 +11,7 @@ use Rattle.cta_model.specs.declared.hands.Hand.{Hand}
 use Rattle.cta_model.specs.declared.hands.Hand.TheVariants as hand
 use Rattle.cta_model.specs.declared.states.Mount.{Mount}
 use Rattle.cta_model.specs.Mounts.{mount_of, is_open}
-use Rattle.cta_model.specs.Media.{IsTrueWhereTold}
+use Rattle.cta_model.specs.Media.{IsMediumOf}
 use Rattle.cta_laws.specs.Mounts.{IsMountKept}
 use Rattle.turn_hall.specs.declared.view.View.{View}
 use Rattle.turn_hall.specs.Calls.{merged}
@@ -24,7 +24,7 @@ use Rattle.archive_turns.specs.Topics.{topic_of}
 use Rattle.archive_turns.specs.Plays.{call_adds}
 use Rattle.archive.specs.InOrder.{IsLegalInOrder, PlaysInOrder}
 
-module _ {M : Type 0} (told : M → Option TapeRecords) where
+module _ {M : Type 0} (told : M → MediumView) where
   -- what a pass of an archive's hall knows
   abbrev pub Known : Type 0
   Known = View Site Entry (ArchiveCall M) (ArchiveBack M)
@@ -44,7 +44,7 @@ module _ {M : Type 0} (told : M → Option TapeRecords) where
   NextOpens =
       (site : Site) (v w : Known) (at d m : ℕ) (way : Direction) (tape : ℕ) (in_hand : Hand M) (x : M)
       → IsTurn site v (call.Ask at (ask.Next d) in_hand) (back.Ask (Ok (answer.Mounted m way tape, hand.Medium x))) w
-      → IsOwnMount w m (record { drive = d; direction = way; tape = tape }) × IsTrueWhereTold told (reverse w.seen) tape x
+      → IsOwnMount w m (record { drive = d; direction = way; tape = tape }) × IsMediumOf (reverse w.seen) tape (told x)
 
   -- the Next of a mount stays among a pass's own calls while the pass takes turns
   abbrev pub OwnOverTurns : Type 0

@@ -1,7 +1,7 @@
 // The archive.
-ghost use Rattle.std.specs.Prelude.{◌≡◌, [], IfOk};
+ghost use Rattle.std.specs.Prelude.{◌≡◌, [], IfOk, Some, map};
 ghost use Rattle.cta_model.specs.Legal.{IsLegal};
-ghost use Rattle.archive_answers.specs.Kept.{AreFirstMedia, TapesHaveMedia};
+ghost use Rattle.archive_answers.specs.Kept.{AreFirstMedia, AreShelved};
 ghost use Rattle.history_laws.specs.Holding.{HoldsLaws};
 
 use archive_answers::KeptState;
@@ -12,8 +12,9 @@ use std::alloc::Global;
 use std::hash::RandomState;
 use std::marker::Model;
 
-/// An archive of one site. Contracts see it as its site and its history, newest entry first. The history is legal: each entry's answer is
-/// that of the sequential archive on the entries before it. This project's own.
+/// An archive of one site. Contracts see it as its site, its history, newest entry first, and its shelf: the media that no drive has, by
+/// the numbers of their tapes. The history is legal: each entry's answer is that of the sequential archive on the entries before it.
+/// This project's own.
 #[derive(Drop)]
 pub struct Archive<M: Told + Drop> {
     pub(crate) alloc: Global,
@@ -29,7 +30,7 @@ impl<M: Told + Drop> Model for Archive<M> {
 }
 
 impl<M: Told + Drop> Archive<M> {
-    /// An archive with an empty history, in which all drives are up, with a medium for each tape of the site, in order of their numbers.
+    /// An archive with an empty history, in which all drives are up, with the medium of each tape of the site, in order of their numbers.
     /// Paths are hashed with these keys. After NoMemory the site and the media are dropped. Its cost is the size of the site.
     pub fn new(
         alloc: Global,
@@ -38,7 +39,7 @@ impl<M: Told + Drop> Archive<M> {
         keys: RandomState,
     ) -> Result<Archive<M>, NoMemory>
         requires { AreFirstMedia M.told site media.items }
-        ensures { IfOk result (λ archive. archive ≡ record { site = site; history = [] }) }
+        ensures { IfOk result (λ archive. archive ≡ record { site = site; history = []; shelf = map (λ m. Some (M.told m)) media.items }) }
     {
         let state = KeptState::new(alloc, site, media, keys)?;
         Ok(Archive { alloc, state })
@@ -75,10 +76,10 @@ impl<M: Told + Drop> Archive<M> {
         self.keeps_history();
     }
 
-    /// That each tape of the site that no open mount has has a medium, which is true for the history where it tells its records: a law,
-    /// which does nothing when it runs.
+    /// That each tape of the site that no open mount has has its medium on the shelf, which is true for the history where it tells its
+    /// records: a law, which does nothing when it runs.
     pub fn keeps_media(&self)
-        ensures { TapesHaveMedia M.told self.now.site self.now.history }
+        ensures { AreShelved self.now.site self.now.history self.now.shelf }
     {
         self.state.keeps_media();
     }

@@ -4,7 +4,7 @@ ghost use Rattle.cta_model.specs.declared.asks.Ask.TheVariants as ask;
 ghost use Rattle.cta_model.specs.declared.asks.Direction.TheVariants as direction;
 ghost use Rattle.cta_model.specs.Answers.{answer_of, is_accepted};
 ghost use Rattle.cta_model.specs.Bare.{bare_answer, bare_ask};
-ghost use Rattle.cta_model.specs.Hands.{HandBack, HandIn};
+ghost use Rattle.cta_model.specs.Hands.{HandBack, HandIn, TakesOut, medium_in};
 ghost use Rattle.cta_model.specs.Kept.{kept_after};
 ghost use Rattle.cta_model.specs.Legal.{IsEndFault, IsFit, IsMount, IsMountOf, greatest_moment};
 ghost use Rattle.cta_model.specs.Mounts.{mount_of};
@@ -30,7 +30,7 @@ fn put_with<M: Told + Drop>(
     requires at { at ≤ greatest_moment }
     requires hand { HandIn M.told state.old.history (Ask.Put who path sum) hand }
     ensures answer { IfOk result (λ r. bare_answer r.0 ≡ answer_of state.old.site state.old.history at (Ask.Put who path sum)) }
-    ensures kept { IfOk result (λ r. state.new ≡ kept_after state.old at (Ask.Put who path sum) (bare_answer r.0)) }
+    ensures kept { IfOk result (λ r. state.new ≡ kept_after state.old at (Ask.Put who path sum) (bare_answer r.0) None) }
     ensures hand { IfOk result (λ r. HandBack M.told (is_accepted (bare_answer r.0)) state.old.history state.new.history (Ask.Put who path sum) (bare_answer r.0) hand r.1) }
     ensures back { IfErr result (λ e. (e.1 ≡ Ask.Put who path sum) × (e.2 ≡ hand)) }
     ensures same { OnErr result (state.new ≡ state.old) }
@@ -53,7 +53,7 @@ fn recalled_with<M: Told + Drop>(
     requires fit { IsMountOf direction.Retrieve (mount_of state.old.history mount) }
     requires hand { HandIn M.told state.old.history (Ask.Recalled mount job) hand }
     ensures answer { IfOk result (λ r. bare_answer r.0 ≡ answer_of state.old.site state.old.history at (Ask.Recalled mount job)) }
-    ensures kept { IfOk result (λ r. state.new ≡ kept_after state.old at (Ask.Recalled mount job) (bare_answer r.0)) }
+    ensures kept { IfOk result (λ r. state.new ≡ kept_after state.old at (Ask.Recalled mount job) (bare_answer r.0) None) }
     ensures hand { IfOk result (λ r. HandBack M.told (is_accepted (bare_answer r.0)) state.old.history state.new.history (Ask.Recalled mount job) (bare_answer r.0) hand r.1) }
     ensures back { IfErr result (λ e. (e.1 ≡ Ask.Recalled mount job) × (e.2 ≡ hand)) }
     ensures same { OnErr result (state.new ≡ state.old) }
@@ -77,7 +77,7 @@ fn end_with<M: Told + Drop>(
     requires fault { IsEndFault fault }
     requires hand { HandIn M.told state.old.history (Ask.End mount fault) hand }
     ensures answer { IfOk result (λ r. bare_answer r.0 ≡ answer_of state.old.site state.old.history at (Ask.End mount fault)) }
-    ensures kept { IfOk result (λ r. state.new ≡ kept_after state.old at (Ask.End mount fault) (bare_answer r.0)) }
+    ensures kept { IfOk result (λ r. state.new ≡ kept_after state.old at (Ask.End mount fault) (bare_answer r.0) (medium_in M.told hand)) }
     ensures hand { IfOk result (λ r. HandBack M.told (is_accepted (bare_answer r.0)) state.old.history state.new.history (Ask.End mount fault) (bare_answer r.0) hand r.1) }
     ensures back { IfErr result (λ e. (e.1 ≡ Ask.End mount fault) × (e.2 ≡ hand)) }
     ensures same { OnErr result (state.new ≡ state.old) }
@@ -91,7 +91,8 @@ fn end_with<M: Told + Drop>(
 impl<M: Told + Drop> Archive<M> {
     /// Answers an ask at this moment, in seconds since 1970, or at the last entry's where that is later, with the hand that belongs to it.
     ///
-    /// The answer is the sequential archive's on the history. An accepted ask appends its one entry, and the hand of its answer comes out.
+    /// The answer is the sequential archive's on the history. An accepted ask appends its one entry, and the hand of its answer comes out:
+    /// with a Next the medium that was at the place of its tape on the shelf. The medium of an End goes to the place that its label says.
     /// One that is refused changes nothing, and its hand comes back. After NoMemory nothing has changed, and the ask and the hand come back.
     ///
     /// A session asks only what a session may: a Next of a drive of the site, and all else of a mount of the history. Its cost is that of
@@ -107,8 +108,9 @@ impl<M: Told + Drop> Archive<M> {
         requires fit { IsFit self.old.site self.old.history ask }
         requires hand { HandIn M.told self.old.history ask hand }
         ensures answer { IfOk result (λ r. bare_answer r.0 ≡ answer_of self.old.site self.old.history at (bare_ask ask)) }
-        ensures kept { IfOk result (λ r. self.new ≡ kept_after self.old at (bare_ask ask) (bare_answer r.0)) }
+        ensures kept { IfOk result (λ r. self.new ≡ kept_after self.old at (bare_ask ask) (bare_answer r.0) (medium_in M.told hand)) }
         ensures hand { IfOk result (λ r. HandBack M.told (is_accepted (bare_answer r.0)) self.old.history self.new.history (bare_ask ask) (bare_answer r.0) hand r.1) }
+        ensures shelf { IfOk result (λ r. TakesOut M.told self.old.shelf (bare_ask ask) (bare_answer r.0) r.1) }
         ensures back { IfErr result (λ e. (e.1 ≡ ask) × (e.2 ≡ hand)) }
         ensures same { OnErr result (self.new ≡ self.old) }
     {

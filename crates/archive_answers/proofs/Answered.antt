@@ -1,7 +1,7 @@
 -- What asks of drives are answered, by the tests of their refusals.
 use Rattle.std.proofs.Common.{◌≡◌, ℕ, ◌<◌, arith, length, List, [], ◌∷◌, ◌++◌, Bool, true, false, refl}
 use Rattle.std.specs.Prelude.{Option, ◌&&◌, nat_le}
-use Rattle.blob.specs.Records.{TapeRecords}
+use Rattle.blob.specs.Records.{MediumView}
 use Rattle.cta_site.specs.declared.site.Site.{Site}
 use Rattle.cta_site.specs.Listed.{Listed, rows}
 use Rattle.cta_model.specs.declared.asks.Ask.TheVariants as ask
@@ -55,18 +55,18 @@ next_busy site h t d low down busy = rw (known_drive (length site.drives.items) 
 
 -- ---- what goes out
 
-pub flush_hand : {M : Type 0} (told : M → Option TapeRecords) (h later : History) (m : ℕ) (items : Listed Item) (a : Answer) (in_hand : Hand M) (accepted : Bool) → accepted ≡ true → HandBack told accepted h later (ask.Flushed m items) a in_hand hand.Nothing
+pub flush_hand : {M : Type 0} (told : M → MediumView) (h later : History) (m : ℕ) (items : Listed Item) (a : Answer) (in_hand : Hand M) (accepted : Bool) → accepted ≡ true → HandBack told accepted h later (ask.Flushed m items) a in_hand hand.Nothing
 flush_hand told h later m items a in_hand true is = tt
 flush_hand told h later m items a in_hand false is = absurd (cc)
 
-pub recall_hand : {M : Type 0} (told : M → Option TapeRecords) (h later : History) (m : ℕ) (job : Job) (a : Answer) (in_hand : Hand M) (accepted : Bool) → accepted ≡ true → HandBack told accepted h later (ask.Recalled m job) a in_hand hand.Nothing
+pub recall_hand : {M : Type 0} (told : M → MediumView) (h later : History) (m : ℕ) (job : Job) (a : Answer) (in_hand : Hand M) (accepted : Bool) → accepted ≡ true → HandBack told accepted h later (ask.Recalled m job) a in_hand hand.Nothing
 recall_hand told h later m job a in_hand true is = tt
 recall_hand told h later m job a in_hand false is = absurd (cc)
 
-pub fail_hand : {M : Type 0} (told : M → Option TapeRecords) (h later : History) (m : ℕ) (fault : Fault) (charged returned : Listed Job) (a : Answer) (in_hand : Hand M) (accepted : Bool) → accepted ≡ true → HandBack told accepted h later (ask.Failed m fault charged returned) a in_hand hand.Nothing
+pub fail_hand : {M : Type 0} (told : M → MediumView) (h later : History) (m : ℕ) (fault : Fault) (charged returned : Listed Job) (a : Answer) (in_hand : Hand M) (accepted : Bool) → accepted ≡ true → HandBack told accepted h later (ask.Failed m fault charged returned) a in_hand hand.Nothing
 fail_hand told h later m fault charged returned a in_hand true is = tt
 fail_hand told h later m fault charged returned a in_hand false is = absurd (cc)
 
-pub end_hand : {M : Type 0} (told : M → Option TapeRecords) (h later : History) (m : ℕ) (fault : Option Fault) (a : Answer) (in_hand : Hand M) (accepted : Bool) → accepted ≡ true → HandBack told accepted h later (ask.End m fault) a in_hand hand.Nothing
+pub end_hand : {M : Type 0} (told : M → MediumView) (h later : History) (m : ℕ) (fault : Option Fault) (a : Answer) (in_hand : Hand M) (accepted : Bool) → accepted ≡ true → HandBack told accepted h later (ask.End m fault) a in_hand hand.Nothing
 end_hand told h later m fault a in_hand true is = tt
 end_hand told h later m fault a in_hand false is = absurd (cc)

@@ -4,7 +4,7 @@ use Rattle.std.specs.Prelude.{Option, Some, None, map, nat_lt}
 use Rattle.std.specs.declared.alloc.Global.{Global}
 use Rattle.std.specs.declared.sync.Arc.{Arc}
 use Rattle.blob.specs.declared.blobs.Blob.{Blob}
-use Rattle.blob.specs.Records.{TapeRecords}
+use Rattle.blob.specs.Records.{MediumView}
 use Rattle.cta_site.specs.declared.site.Site.{Site}
 use Rattle.cta_site.specs.Listed.{Listed, rows}
 use Rattle.cta_model.specs.declared.asks.Ask.TheVariants as ask
@@ -84,7 +84,7 @@ batch_hand M None items blobs writes same = absurd writes
 batch_hand M (Some x) items blobs writes same = (writes, same)
 
 -- the contents come out with it
-pub write_hand : {M : Type 0} (told : M → Option TapeRecords) (h later : History) (m : ℕ) (items : List Item) (a : Answer) (blobs : Listed (Arc Blob Global)) → IsMountOf direction.Archive (mount_of h m) → a ≡ answer.Batch (rows items) (rows [])
+pub write_hand : {M : Type 0} (told : M → MediumView) (h later : History) (m : ℕ) (items : List Item) (a : Answer) (blobs : Listed (Arc Blob Global)) → IsMountOf direction.Archive (mount_of h m) → a ≡ answer.Batch (rows items) (rows [])
     → map sum_of_blob blobs.items ≡ map (λ (i : Item). i.sum) items → HandBack told (is_accepted a) h later (ask.Claim m) a hand.Nothing (hand.Blobs blobs)
 write_hand told h later m items a blobs writes is same = rw is (batch_hand _ (mount_of h m) items blobs writes same)
 

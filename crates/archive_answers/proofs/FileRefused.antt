@@ -15,7 +15,7 @@ use Rattle.cta_model.specs.declared.answers.Refusal.TheVariants as refusal
 use Rattle.cta_model.specs.declared.hands.Hand.{Hand}
 use Rattle.cta_model.specs.declared.hands.Hand.TheVariants as hand
 use Rattle.cta_model.specs.Hands.{HandBack}
-use Rattle.blob.specs.Records.{TapeRecords}
+use Rattle.blob.specs.Records.{MediumView}
 use Rattle.cta_model.specs.Answers.{answer_of, is_accepted, is_too_heavy, refuse}
 use Rattle.cta_model.specs.Files.{live_file}
 use Rattle.cta_model.specs.History.{History, moment_of, weight_of, weight_of_entry}
@@ -98,6 +98,6 @@ delete_accepted site h t who path none =
     delete_accepted_by (is_none (live_file h path)) (is_too_heavy site h (ask.Delete who path) (refuse refusal.NoFile (is_none (live_file h path)) answer.Done)) none
 
 -- nothing comes out with an accepted Put
-pub put_hand : {M : Type 0} (told : M → Option TapeRecords) (h later : History) (who : Who) (path : List ℕ) (sum : Sum256) (a : Answer) (in_hand : Hand M) (accepted : Bool) → accepted ≡ true → HandBack told accepted h later (ask.Put who path sum) a in_hand hand.Nothing
+pub put_hand : {M : Type 0} (told : M → MediumView) (h later : History) (who : Who) (path : List ℕ) (sum : Sum256) (a : Answer) (in_hand : Hand M) (accepted : Bool) → accepted ≡ true → HandBack told accepted h later (ask.Put who path sum) a in_hand hand.Nothing
 put_hand told h later who path sum a in_hand true is = tt
 put_hand told h later who path sum a in_hand false is = absurd (cc)

@@ -24,7 +24,7 @@ fn claim_to_write<M: Told + Drop>(
     requires open { is_open state.old.history mount ≡ true }
     requires writes { IsMountOf direction.Archive (mount_of state.old.history mount) }
     ensures answer { IfOk result (λ r. bare_answer r.0 ≡ answer_of state.old.site state.old.history at (Ask.Claim mount)) }
-    ensures kept { IfOk result (λ r. state.new ≡ kept_after state.old at (Ask.Claim mount) (bare_answer r.0)) }
+    ensures kept { IfOk result (λ r. state.new ≡ kept_after state.old at (Ask.Claim mount) (bare_answer r.0) None) }
     ensures hand { IfOk result (λ r. HandBack M.told (is_accepted (bare_answer r.0)) state.old.history state.new.history (Ask.Claim mount) (bare_answer r.0) Hand.Nothing r.1) }
     ensures back { IfErr result (λ e. (e.1 ≡ Ask.Claim mount) × (e.2 ≡ Hand.Nothing)) }
     ensures same { OnErr result (state.new ≡ state.old) }
@@ -66,7 +66,7 @@ pub fn claim<M: Told + Drop>(
 ) -> Result<(Answer, Hand<M>), (NoMemory, Ask, Hand<M>)>
     requires at { at ≤ greatest_moment }
     ensures answer { IfOk result (λ r. bare_answer r.0 ≡ answer_of state.old.site state.old.history at (Ask.Claim mount)) }
-    ensures kept { IfOk result (λ r. state.new ≡ kept_after state.old at (Ask.Claim mount) (bare_answer r.0)) }
+    ensures kept { IfOk result (λ r. state.new ≡ kept_after state.old at (Ask.Claim mount) (bare_answer r.0) None) }
     ensures hand { IfOk result (λ r. HandBack M.told (is_accepted (bare_answer r.0)) state.old.history state.new.history (Ask.Claim mount) (bare_answer r.0) Hand.Nothing r.1) }
     ensures back { IfErr result (λ e. (e.1 ≡ Ask.Claim mount) × (e.2 ≡ Hand.Nothing)) }
     ensures same { OnErr result (state.new ≡ state.old) }

@@ -23,7 +23,7 @@ pub fn delete<M: Told + Drop>(
 ) -> Result<(Answer, Hand<M>), (NoMemory, Ask, Hand<M>)>
     requires { at ≤ greatest_moment }
     ensures answer { IfOk result (λ r. bare_answer r.0 ≡ answer_of state.old.site state.old.history at (Ask.Delete who path)) }
-    ensures kept { IfOk result (λ r. state.new ≡ kept_after state.old at (Ask.Delete who path) (bare_answer r.0)) }
+    ensures kept { IfOk result (λ r. state.new ≡ kept_after state.old at (Ask.Delete who path) (bare_answer r.0) None) }
     ensures hand { IfOk result (λ r. r.1 ≡ Hand.Nothing) }
     ensures back { IfErr result (λ e. (e.1 ≡ Ask.Delete who path) × (e.2 ≡ Hand.Nothing)) }
     ensures same { OnErr result (state.new ≡ state.old) }

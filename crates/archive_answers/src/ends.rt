@@ -5,7 +5,7 @@ ghost use Rattle.cta_model.specs.Bare.{bare_answer};
 ghost use Rattle.cta_model.specs.Hands.{HandBack};
 ghost use Rattle.cta_model.specs.Kept.{kept_after};
 ghost use Rattle.cta_model.specs.Legal.{IsEndFault, IsMount, greatest_moment};
-ghost use Rattle.cta_model.specs.Media.{IsTrueWhereTold};
+ghost use Rattle.cta_model.specs.Media.{IsMediumOf};
 ghost use Rattle.cta_model.specs.Mounts.{mount_of, tape_of_mount};
 
 use blob::Told;
@@ -29,9 +29,9 @@ pub fn end<M: Told + Drop>(
     requires at { at ≤ greatest_moment }
     requires fit { IsMount (mount_of state.old.history mount) }
     requires fault { IsEndFault fault }
-    requires medium { IsTrueWhereTold M.told state.old.history (tape_of_mount state.old.history mount) medium }
+    requires medium { IsMediumOf state.old.history (tape_of_mount state.old.history mount) (M.told medium) }
     ensures answer { IfOk result (λ r. bare_answer r.0 ≡ answer_of state.old.site state.old.history at (Ask.End mount fault)) }
-    ensures kept { IfOk result (λ r. state.new ≡ kept_after state.old at (Ask.End mount fault) (bare_answer r.0)) }
+    ensures kept { IfOk result (λ r. state.new ≡ kept_after state.old at (Ask.End mount fault) (bare_answer r.0) (Some (M.told medium))) }
     ensures hand { IfOk result (λ r. HandBack M.told (is_accepted (bare_answer r.0)) state.old.history state.new.history (Ask.End mount fault) (bare_answer r.0) (Hand.Medium medium) r.1) }
     ensures back { IfErr result (λ e. (e.1 ≡ Ask.End mount fault) × (e.2 ≡ Hand.Medium medium)) }
     ensures same { OnErr result (state.new ≡ state.old) }

@@ -31,7 +31,7 @@ pub fn failed<M: Told + Drop>(
     requires fault { IsFaultOf fault (mount_of state.old.history mount) }
     requires named { 0 < length charged.items + length returned.items }
     ensures answer { IfOk result (λ r. bare_answer r.0 ≡ answer_of state.old.site state.old.history at (Ask.Failed mount fault (rows charged.items) (rows returned.items))) }
-    ensures kept { IfOk result (λ r. state.new ≡ kept_after state.old at (Ask.Failed mount fault (rows charged.items) (rows returned.items)) (bare_answer r.0)) }
+    ensures kept { IfOk result (λ r. state.new ≡ kept_after state.old at (Ask.Failed mount fault (rows charged.items) (rows returned.items)) (bare_answer r.0) None) }
     ensures hand { IfOk result (λ r. HandBack M.told (is_accepted (bare_answer r.0)) state.old.history state.new.history (Ask.Failed mount fault (rows charged.items) (rows returned.items)) (bare_answer r.0) Hand.Nothing r.1) }
     ensures back { IfErr result (λ e. (e.1 ≡ Ask.Failed mount fault charged returned) × (e.2 ≡ Hand.Nothing)) }
     ensures same { OnErr result (state.new ≡ state.old) }

@@ -29,7 +29,7 @@ pub fn flushed<M: Told + Drop>(
     requires at { at ≤ greatest_moment }
     requires fit { IsMountOf direction.Archive (mount_of state.old.history mount) }
     ensures answer { IfOk result (λ r. bare_answer r.0 ≡ answer_of state.old.site state.old.history at (Ask.Flushed mount (rows items.items))) }
-    ensures kept { IfOk result (λ r. state.new ≡ kept_after state.old at (Ask.Flushed mount (rows items.items)) (bare_answer r.0)) }
+    ensures kept { IfOk result (λ r. state.new ≡ kept_after state.old at (Ask.Flushed mount (rows items.items)) (bare_answer r.0) None) }
     ensures hand { IfOk result (λ r. HandBack M.told (is_accepted (bare_answer r.0)) state.old.history state.new.history (Ask.Flushed mount (rows items.items)) (bare_answer r.0) Hand.Nothing r.1) }
     ensures back { IfErr result (λ e. (e.1 ≡ Ask.Flushed mount items) × (e.2 ≡ Hand.Nothing)) }
     ensures same { OnErr result (state.new ≡ state.old) }

@@ -28,7 +28,7 @@ pub fn put<M: Told + Drop>(
 ) -> Result<(Answer, Hand<M>), (NoMemory, Ask, Hand<M>)>
     requires { at ≤ greatest_moment }
     ensures answer { IfOk result (λ r. bare_answer r.0 ≡ answer_of state.old.site state.old.history at (Ask.Put who path (sum_of blob.value))) }
-    ensures kept { IfOk result (λ r. state.new ≡ kept_after state.old at (Ask.Put who path (sum_of blob.value)) (bare_answer r.0)) }
+    ensures kept { IfOk result (λ r. state.new ≡ kept_after state.old at (Ask.Put who path (sum_of blob.value)) (bare_answer r.0) None) }
     ensures hand { IfOk result (λ r. HandBack M.told (is_accepted (bare_answer r.0)) state.old.history state.new.history (Ask.Put who path (sum_of blob.value)) (bare_answer r.0) (Hand.Blob blob) r.1) }
     ensures back { IfErr result (λ e. (e.1 ≡ Ask.Put who path (sum_of blob.value)) × (e.2 ≡ Hand.Blob blob)) }
     ensures same { OnErr result (state.new ≡ state.old) }

@@ -34,7 +34,7 @@ pub fn recalled<M: Told + Drop>(
     requires fit { IsMountOf direction.Retrieve (mount_of state.old.history mount) }
     requires content { sum_of blob.value ≡ files.sum_of state.old.history job.file }
     ensures answer { IfOk result (λ r. bare_answer r.0 ≡ answer_of state.old.site state.old.history at (Ask.Recalled mount job)) }
-    ensures kept { IfOk result (λ r. state.new ≡ kept_after state.old at (Ask.Recalled mount job) (bare_answer r.0)) }
+    ensures kept { IfOk result (λ r. state.new ≡ kept_after state.old at (Ask.Recalled mount job) (bare_answer r.0) None) }
     ensures hand { IfOk result (λ r. HandBack M.told (is_accepted (bare_answer r.0)) state.old.history state.new.history (Ask.Recalled mount job) (bare_answer r.0) (Hand.Blob blob) r.1) }
     ensures back { IfErr result (λ e. (e.1 ≡ Ask.Recalled mount job) × (e.2 ≡ Hand.Blob blob)) }
     ensures same { OnErr result (state.new ≡ state.old) }

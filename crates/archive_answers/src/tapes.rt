@@ -26,7 +26,7 @@ pub fn set_tape_state<M: Told + Drop>(
 ) -> Result<(Answer, Hand<M>), (NoMemory, Ask, Hand<M>)>
     requires { at ≤ greatest_moment }
     ensures answer { IfOk result (λ r. bare_answer r.0 ≡ answer_of state.old.site state.old.history at (Ask.TapeState who tape to)) }
-    ensures kept { IfOk result (λ r. state.new ≡ kept_after state.old at (Ask.TapeState who tape to) (bare_answer r.0)) }
+    ensures kept { IfOk result (λ r. state.new ≡ kept_after state.old at (Ask.TapeState who tape to) (bare_answer r.0) None) }
     ensures hand { IfOk result (λ r. r.1 ≡ Hand.Nothing) }
     ensures back { IfErr result (λ e. (e.1 ≡ Ask.TapeState who tape to) × (e.2 ≡ Hand.Nothing)) }
     ensures same { OnErr result (state.new ≡ state.old) }
@@ -61,7 +61,7 @@ pub fn reclaim<M: Told + Drop>(
 ) -> Result<(Answer, Hand<M>), (NoMemory, Ask, Hand<M>)>
     requires { at ≤ greatest_moment }
     ensures answer { IfOk result (λ r. bare_answer r.0 ≡ answer_of state.old.site state.old.history at (Ask.Reclaim who tape)) }
-    ensures kept { IfOk result (λ r. state.new ≡ kept_after state.old at (Ask.Reclaim who tape) (bare_answer r.0)) }
+    ensures kept { IfOk result (λ r. state.new ≡ kept_after state.old at (Ask.Reclaim who tape) (bare_answer r.0) None) }
     ensures hand { IfOk result (λ r. r.1 ≡ Hand.Nothing) }
     ensures back { IfErr result (λ e. (e.1 ≡ Ask.Reclaim who tape) × (e.2 ≡ Hand.Nothing)) }
     ensures same { OnErr result (state.new ≡ state.old) }

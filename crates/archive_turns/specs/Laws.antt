@@ -1,11 +1,11 @@
 -- Laws of turns.
 use Rattle.std.specs.Prelude.{ℕ, ◌≡◌, ◌≤◌, ◌⊎◌, ◌∷◌, ◌++◌, Option, Some, Bool, true, false}
-use Rattle.blob.specs.Records.{TapeRecords}
+use Rattle.blob.specs.Records.{MediumView}
 use Rattle.cta_site.specs.declared.site.Site.{Site}
 use Rattle.cta_model.specs.declared.entries.Entry.{Entry}
 use Rattle.cta_model.specs.History.{History, next_number}
 use Rattle.cta_model.specs.Mounts.{is_open, tape_of_mount}
-use Rattle.cta_model.specs.Media.{IsTrueMedium}
+use Rattle.cta_model.specs.Media.{IsMediumOf}
 use Rattle.cta_model.specs.Legal.{IsLegal}
 use Rattle.cta_laws.specs.Mounts.{IsMountKept}
 use Rattle.archive_turns.specs.declared.calls.ArchiveCall.{ArchiveCall}
@@ -27,13 +27,13 @@ OpensByItsNumber = (site : Site) (newer h : History) (e : Entry) (m : ℕ) → I
 abbrev pub MountIsKept : Type 0
 MountIsKept = (site : Site) (newer h : History) (m : ℕ) → IsLegal site (newer ++ h) → is_open h m ≡ true → AreApart (Some m) newer → IsMountKept (newer ++ h) h m
 
--- what is true for an open mount stays true in each longer legal history whose new entries are about others
+-- the medium of an open mount stays that of its tape, and true, in each longer legal history whose new entries are about others
 abbrev pub TrueMediumStays : Type 0
 TrueMediumStays =
-    (site : Site) (newer h : History) (m : ℕ) (t : TapeRecords) → IsLegal site (newer ++ h) → is_open h m ≡ true → AreApart (Some m) newer
-    → IsTrueMedium h (tape_of_mount h m) t → IsTrueMedium (newer ++ h) (tape_of_mount (newer ++ h) m) t
+    (site : Site) (newer h : History) (m : ℕ) (x : MediumView) → IsLegal site (newer ++ h) → is_open h m ≡ true → AreApart (Some m) newer
+    → IsMediumOf h (tape_of_mount h m) x → IsMediumOf (newer ++ h) (tape_of_mount (newer ++ h) m) x
 
-module _ {M : Type 0} (told : M → Option TapeRecords) where
+module _ {M : Type 0} (told : M → MediumView) where
   -- a call adds one entry where its answer is accepted, and none otherwise
   abbrev pub CallAddsOrKeeps : Type 0
   CallAddsOrKeeps = (site : Site) (h : History) (c : ArchiveCall M) (b : ArchiveBack M) (later : History) → Plays told site h c b later → IsGrown h (call_adds c b) later

@@ -1,13 +1,12 @@
-// Media whose records contracts speak of.
+// Media of which contracts speak.
 
-/// A medium, such as a tape, whose records contracts may name. It has no calls: its member is a meaning alone. Records
-/// count from 1 on a medium. A medium that doesn't tell its records, as one that others write too, has none to name.
-/// This project's own.
+/// A medium, such as a tape, of which contracts may speak. It has no calls: its member is a meaning alone. Its label is the number of
+/// the tape whose medium it is. Records count from 1 on a medium. A medium that doesn't tell its records, as one that others write too,
+/// has none to name, and still has its label. This project's own.
 pub trait Told {
-    ghost use Rattle.std.specs.Prelude.{Option};
-    ghost use Rattle.blob.specs.Records.{TapeRecords};
+    ghost use Rattle.blob.specs.Records.{MediumView};
 
-    // The records in their order and how many of the first are safe, none where the medium doesn't tell them. No call
-    // changes whether it tells.
-    ghost told: { Self → Option TapeRecords };
+    // Its label; and the records in their order with how many of the first are safe, none where the medium doesn't tell them. No call
+    // changes the label, or whether it tells.
+    ghost told: { Self → MediumView };
 }

@@ -1,7 +1,6 @@
 // The program over any ends.
 ghost use Rattle.std.specs.Prelude.{drop, map, string_bytes};
-ghost use Rattle.replay.specs.Seen.{source_view, sink_view};
-ghost use Rattle.replay.specs.Top.{handed, Runs, RunsWhole};
+ghost use Rattle.replay.specs.Top.{handed, HasReplayed};
 ghost use Rattle.cta_main.specs.Exit.{IsNumberOf};
 
 use crate::report::end_with;
@@ -25,10 +24,9 @@ pub(crate) fn run<E: Eprint, A: Source, S: Source, K: Sink, D: TapeDrive + Drop,
     bench: &mut B,
     keys: RandomState,
 ) -> u8
-    ensures { let words = map string_bytes (drop 1 arguments.now) in
-        let old = handed (source_view (A.left site.old) (A.faults site.old)) (source_view (S.left script.old) (S.faults script.old)) (sink_view (K.written out.old) (K.faults out.old)) in
-        let new = handed (source_view (A.left site.new) (A.faults site.new)) (source_view (S.left script.new) (S.faults script.new)) (sink_view (K.written out.new) (K.faults out.new)) in
-        IsNumberOf (λ status. Runs D.Medium.told (B.tells bench.old) status words old new × RunsWhole D.Medium.told (B.tells bench.old) status words old new) result }
+    ensures { let old = handed (A.left site.old) (A.faults site.old) (S.left script.old) (S.faults script.old) (K.written out.old) (K.faults out.old) in
+        let new = handed (A.left site.new) (A.faults site.new) (S.left script.new) (S.faults script.new) (K.written out.new) (K.faults out.new) in
+        IsNumberOf (λ status. HasReplayed (B.tells bench.old) status (map string_bytes (drop 1 arguments.now)) old new) result }
 {
     let words = words_of(arguments);
     let status = replay_top(alloc, words, site, script, out, bench, keys);

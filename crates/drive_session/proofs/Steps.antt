@@ -7,7 +7,7 @@ use Rattle.std.specs.declared.sync.Arc.{Arc}
 use Rattle.std.specs.declared.alloc.Global.{Global}
 use Rattle.blob.specs.declared.blobs.Blob.{Blob}
 use Rattle.blob.specs.declared.sum.Sum256.{Sum256}
-use Rattle.blob.specs.Records.{TapeRecords}
+use Rattle.blob.specs.Records.{MediumView, TapeRecords, with_records}
 use Rattle.cta_site.specs.declared.site.Site.{Site}
 use Rattle.cta_site.specs.declared.site.CallKind.{CallKind}
 use Rattle.cta_site.specs.declared.site.CallKind.TheVariants as kind
@@ -20,7 +20,7 @@ use Rattle.cta_model.specs.declared.asks.Job.{Job}
 use Rattle.cta_model.specs.declared.hands.Hand.TheVariants as hand
 use Rattle.cta_model.specs.Hands.{sum_of_blob}
 use Rattle.cta_model.specs.History.{History}
-use Rattle.cta_model.specs.Media.{IsTrueMedium}
+use Rattle.cta_model.specs.Media.{IsMediumOf, IsTrueMedium}
 use Rattle.cta_model.specs.declared.asks.Direction.{Direction}
 use Rattle.cta_model.specs.declared.asks.Direction.TheVariants as direction
 use Rattle.cta_model.specs.declared.states.Mount.{Mount}
@@ -34,6 +34,8 @@ use Rattle.media.specs.Records.{HasWritten, HasFlushed, written, flushed, unload
 use Rattle.drive_session.specs.declared.states.State.TheVariants as state
 use Rattle.drive_session.specs.declared.states.Asked.{Asked}
 use Rattle.drive_session.specs.declared.states.Asked.TheVariants as asked
+use Rattle.drive_session.specs.declared.reports.Call.TheVariants as call
+use Rattle.drive_session.specs.declared.reports.Done.TheVariants as done
 use Rattle.drive_session.specs.declared.reports.StepLine.TheVariants as line
 use Rattle.drive_session.specs.declared.states.State.{State}
 use Rattle.drive_session.specs.declared.states.Outcome.{Outcome}
@@ -41,8 +43,8 @@ use Rattle.drive_session.specs.declared.states.Mounted.{Mounted}
 use Rattle.drive_session.specs.declared.states.Batch.{Batch}
 use Rattle.drive_session.specs.Records.{AreSafe, AreWritten, blob_sums}
 use Rattle.drive_session.specs.Fits.{IsBatch, IsWriting, IsRest, FitsState, FitsOpen}
-use Rattle.drive_session.specs.Steps.{FitsSome, IsAsBefore, IsKeptAt, charges_in, is_no_memory}
-use Rattle.drive_session.proofs.Tapes.{told_map, true_flushed, true_unloaded, true_written, true_less, more_written, all_flushed, flushed_safe, numbered_at}
+use Rattle.drive_session.specs.Steps.{FitsSome, IsAsBefore, IsKeptAt, LeavesMedium, charges_in, is_no_memory}
+use Rattle.drive_session.proofs.Tapes.{medium_map, told_map, true_flushed, true_unloaded, true_written, true_less, more_written, all_flushed, flushed_safe, numbered_at}
 use Rattle.drive_session.proofs.Lists.{get_map, one_of, others_of, pair_same}
 use Rattle.drive_session.proofs.Resolving.{resolves_all, resolves_parted, parted}
 
@@ -81,16 +83,16 @@ pub loaded_read : (old new : DriveView) (e : Option DeviceErr) → HasAnswered k
 loaded_read old new None answered is = answered.loaded ∙ is
 loaded_read old new (Some e) answered is = answered.loaded ∙ is
 
-pub flush_records : (o n : Option TapeRecords) (e : Option DeviceErr) → e ≡ Some err.Fault → HasFlushed o n e → HasFlushed o n (Some err.Fault)
+pub flush_records : (o n : MediumView) (e : Option DeviceErr) → e ≡ Some err.Fault → HasFlushed o n e → HasFlushed o n (Some err.Fault)
 flush_records o n e is records = subst (λ e. HasFlushed o n e) is records
 
-pub write_records : (s : ℕ) (sum : Sum256) (o n : Option TapeRecords) (e e' : Option DeviceErr) → e ≡ e' → HasWritten s sum o n e → HasWritten s sum o n e'
+pub write_records : (s : ℕ) (sum : Sum256) (o n : MediumView) (e e' : Option DeviceErr) → e ≡ e' → HasWritten s sum o n e → HasWritten s sum o n e'
 write_records s sum o n e e' is records = subst (λ e. HasWritten s sum o n e) is records
 
 -- ---- loads and unloads
 
 -- the medium of a load that failed goes with the End
-pub load_fits : {M : Type 0} (told : M → Option TapeRecords) (d : ℕ) (x : Mounted M) (m : M) (o : Outcome) (f : Option Fault) → IsEndFault f → told m ≡ told x.medium
+pub load_fits : {M : Type 0} (told : M → MediumView) (d : ℕ) (x : Mounted M) (m : M) (o : Outcome) (f : Option Fault) → IsEndFault f → told m ≡ told x.medium
     → (site : Site) (h : History) → FitsState told site h d (state.Held x) → FitsOpen told site h d state.Free (asked.Known o) (ask.End x.mount f) (hand.Medium m)
 load_fits told d x m o f cause records site h fits =
     let rest : IsRest told h d x = fits.state in
@@ -107,19 +109,19 @@ load_fits told d x m o f cause records site h fits =
         cause = cause;
         mount = rest.at.mount;
         claims = rest.claims;
-        truth = subst (λ o. IfSome o (IsTrueMedium h x.tape)) (sym records) rest.at.medium;
+        truth = subst (IsMediumOf h x.tape) (sym records) rest.at.medium;
       };
     }
 
 -- a mount that was loaded claims nothing
-pub held_fits : {M : Type 0} (told : M → Option TapeRecords) (d : ℕ) (x : Mounted M) (m : M) → told m ≡ told x.medium
+pub held_fits : {M : Type 0} (told : M → MediumView) (d : ℕ) (x : Mounted M) (m : M) → told m ≡ told x.medium
     → (site : Site) (h : History) → FitsState told site h d (state.Held x) → FitsState told site h d (state.Ready (after x m))
 held_fits told d x m records site h fits =
     let rest : IsRest told h d x = fits.state in
-    record { known = fits.known; state = record { at = record { mount = rest.at.mount; medium = subst (λ o. IfSome o (IsTrueMedium h x.tape)) (sym records) rest.at.medium }; claims = rest.claims } }
+    record { known = fits.known; state = record { at = record { mount = rest.at.mount; medium = subst (IsMediumOf h x.tape) (sym records) rest.at.medium }; claims = rest.claims } }
 
 -- what a medium is after an unload goes with the End
-pub unload_fits : {M : Type 0} (told : M → Option TapeRecords) (d : ℕ) (x : Mounted M) (m : M) (o : Outcome) (f : Option Fault) → IsEndFault f → told m ≡ option_map unloaded (told x.medium)
+pub unload_fits : {M : Type 0} (told : M → MediumView) (d : ℕ) (x : Mounted M) (m : M) (o : Outcome) (f : Option Fault) → IsEndFault f → told m ≡ with_records unloaded (told x.medium)
     → (site : Site) (h : History) → FitsState told site h d (state.Leaving x) → FitsOpen told site h d state.Free (asked.Known o) (ask.End x.mount f) (hand.Medium m)
 unload_fits told d x m o f cause records site h fits =
     let rest : IsRest told h d x = fits.state in
@@ -136,13 +138,13 @@ unload_fits told d x m o f cause records site h fits =
         cause = cause;
         mount = rest.at.mount;
         claims = rest.claims;
-        truth = told_map (IsTrueMedium h x.tape) (IsTrueMedium h x.tape) unloaded (told x.medium) (told m) records (λ t is. true_unloaded h x.tape t is) rest.at.medium;
+        truth = medium_map h x.tape unloaded (told x.medium) (told m) records (λ t is. true_unloaded h x.tape t is) rest.at.medium;
       };
     }
 
 -- ---- flushes
 
-pub flush_fits : {M : Type 0} (told : M → Option TapeRecords) (d : ℕ) (x : Mounted M) (b : Batch) (m : M) → b.at ≡ length b.items.items → told m ≡ option_map flushed (told x.medium)
+pub flush_fits : {M : Type 0} (told : M → MediumView) (d : ℕ) (x : Mounted M) (b : Batch) (m : M) → b.at ≡ length b.items.items → told m ≡ with_records flushed (told x.medium)
     → (site : Site) (h : History) → FitsState told site h d (state.Writing x b) → FitsOpen told site h d (state.Ready (after x m)) asked.Flushed (ask.Flushed x.mount b.items) hand.Nothing
 flush_fits told d x b m all records site h fits =
     let w : IsWriting told h d x b = fits.state in
@@ -155,25 +157,25 @@ flush_fits told d x b m all records site h fits =
         hand = refl;
         mount = refl;
         batch = record {
-          at = record { mount = w.batch.at.mount; medium = told_map (IsTrueMedium h x.tape) (IsTrueMedium h x.tape) flushed (told x.medium) (told m) records (λ t is. true_flushed h x.tape t is) w.batch.at.medium };
+          at = record { mount = w.batch.at.mount; medium = medium_map h x.tape flushed (told x.medium) (told m) records (λ t is. true_flushed h x.tape t is) w.batch.at.medium };
           way = w.batch.way;
           resolves = resolves_all h x.mount b.items.items w.batch.at.mount.still w.batch.claims w.batch.once;
           last = w.batch.last;
           numbered = w.batch.numbered;
           files = w.batch.files;
-          safe = told_map (AreWritten (length (tape_items h x.tape)) b.items.items b.at) _ flushed (told x.medium) (told m) records (λ t is. all_flushed (length (tape_items h x.tape)) b.items.items t (subst (λ n. AreWritten (length (tape_items h x.tape)) b.items.items n t) all is)) w.written;
+          safe = told_map (AreWritten (length (tape_items h x.tape)) b.items.items b.at) _ flushed (told x.medium).records (told m).records (ap (λ (m : MediumView). m.records) records) (λ t is. all_flushed (length (tape_items h x.tape)) b.items.items t (subst (λ n. AreWritten (length (tape_items h x.tape)) b.items.items n t) all is)) w.written;
         };
       };
     }
 
 -- each item of a flushed batch has a safe record
-pub flush_safe : {M : Type 0} (told : M → Option TapeRecords) (d : ℕ) (x : Mounted M) (b : Batch) (m : M) → b.at ≡ length b.items.items → told m ≡ option_map flushed (told x.medium)
-    → FitsSome told d (state.Writing x b) → IfSome (told m) (λ t. AreSafe t b.items.items)
+pub flush_safe : {M : Type 0} (told : M → MediumView) (d : ℕ) (x : Mounted M) (b : Batch) (m : M) → b.at ≡ length b.items.items → told m ≡ with_records flushed (told x.medium)
+    → FitsSome told d (state.Writing x b) → IfSome (told m).records (λ t. AreSafe t b.items.items)
 flush_safe told d x b m all records some =
     let h : History = some.1.0 in
     let w : IsWriting told h d x b = some.1.1.state in
     let before = length (tape_items h x.tape) in
-    told_map (AreWritten before b.items.items b.at) (λ t. AreSafe t b.items.items) flushed (told x.medium) (told m) records
+    told_map (AreWritten before b.items.items b.at) (λ t. AreSafe t b.items.items) flushed (told x.medium).records (told m).records (ap (λ (m : MediumView). m.records) records)
     (λ t is. flushed_safe before b.items.items (flushed t) w.batch.numbered (all_flushed before b.items.items t (subst (λ n. AreWritten before b.items.items n t) all is))) w.written
 
 many_jobs : (items : List Item) → length (item_jobs items) ≡ length items
@@ -184,7 +186,7 @@ pub goes_way : (o : Option Mount) (d : ℕ) (way want : Direction) (v : ℕ) →
 goes_way o d way want v mount is = subst (λ o. IsMountOf want o) (sym mount) is
 
 -- after a fault of the flush all are charged
-pub flush_fault_fits : {M : Type 0} (told : M → Option TapeRecords) (d : ℕ) (x : Mounted M) (b : Batch) (m : M) (o : Outcome) (charged returned : Listed Job) → charged.items ≡ b.jobs.items → returned.items ≡ [] → HasFlushed (told x.medium) (told m) (Some err.Fault)
+pub flush_fault_fits : {M : Type 0} (told : M → MediumView) (d : ℕ) (x : Mounted M) (b : Batch) (m : M) (o : Outcome) (charged returned : Listed Job) → charged.items ≡ b.jobs.items → returned.items ≡ [] → HasFlushed (told x.medium) (told m) (Some err.Fault)
     → (site : Site) (h : History) → FitsState told site h d (state.Writing x b) → FitsOpen told site h d (state.Leaving (after x m)) (asked.Known o) (ask.Failed x.mount fault.Flush charged returned) hand.Nothing
 flush_fault_fits told d x b m o charged returned ec er records site h fits =
     let w : IsWriting told h d x b = fits.state in
@@ -205,7 +207,7 @@ flush_fault_fits told d x b m o charged returned ec er records site h fits =
       };
     }
 
-pub flush_charges : {M : Type 0} (told : M → Option TapeRecords) (d : ℕ) (x : Mounted M) (b : Batch) (charged returned : Listed Job) → charged.items ≡ b.jobs.items → returned.items ≡ [] → FitsSome told d (state.Writing x b)
+pub flush_charges : {M : Type 0} (told : M → MediumView) (d : ℕ) (x : Mounted M) (b : Batch) (charged returned : Listed Job) → charged.items ≡ b.jobs.items → returned.items ≡ [] → FitsSome told d (state.Writing x b)
     → charges_in (state.Writing x b) fault.Flush ≡ Some (charged.items, returned.items)
 flush_charges told d x b charged returned ec er some =
     let w : IsWriting told some.1.0 d x b = some.1.1.state in
@@ -224,24 +226,42 @@ sum_at (y ∷ sums) (x ∷ items) (suc n) s i e there is = sum_at sums items n s
     tail [] = []
     tail (x ∷ xs) = xs
 
-pub write_fits : {M : Type 0} (told : M → Option TapeRecords) (d : ℕ) (x : Mounted M) (b : Batch) (m : M) (i : Item) (c : Arc Blob Global) → slice_get b.items.items b.at ≡ Some i → c ≡ get_or b.blobs.items b.at c
-    → told m ≡ option_map (written i.fseq (sum_of_blob c)) (told x.medium)
+-- the content at an item's place in a batch has the item's sum
+pub blob_sum : {M : Type 0} (told : M → MediumView) (h : History) (d : ℕ) (x : Mounted M) (b : Batch) (i : Item) (c : Arc Blob Global) → slice_get b.items.items b.at ≡ Some i → c ≡ get_or b.blobs.items b.at c → IsWriting told h d x b → sum_of_blob c ≡ i.sum
+blob_sum told h d x b i c there is_blob w =
+    let low : b.at < length b.items.items = slice_get_within b.items.items b.at i there in
+    let many : length b.blobs.items ≡ length b.items.items = sym (length-map _ _) ∙ ap length w.batch.blobs ∙ length-map _ _ in
+    let blob : slice_get (blob_sums b.blobs.items) b.at ≡ Some (sum_of_blob c) = get_map sum_of_blob b.blobs.items b.at c (omega (arith, low, many)) is_blob in
+    sum_at _ b.items.items b.at (sum_of_blob c) i w.batch.blobs there blob
+
+-- what a write left of the medium, of the item that was next
+pub write_left : {M : Type 0} (told : M → MediumView) (d : ℕ) (x : Mounted M) (b : Batch) (i : Item) (c : Arc Blob Global) (new : MediumView) (e : Option DeviceErr) → slice_get b.items.items b.at ≡ Some i → c ≡ get_or b.blobs.items b.at c
+    → FitsSome told d (state.Writing x b) → HasWritten i.fseq (sum_of_blob c) (told x.medium) new e → HasWritten i.fseq i.sum (told x.medium) new e
+write_left told d x b i c new e there is_blob some records =
+    subst (λ (s : Sum256). HasWritten i.fseq s (told x.medium) new e) (blob_sum told some.1.0 d x b i c there is_blob some.1.1.state) records
+
+-- so it is left by the step
+pub left_written : (o : Option Item) (i : Item) (old new : MediumView) → o ≡ Some i → HasWritten i.fseq i.sum old new None → LeavesMedium (Some (done.Ok (call.Write i.fseq))) o (Some old) (Some new)
+left_written o i old new there is = subst (λ (o : Option Item). LeavesMedium (Some (done.Ok (call.Write i.fseq))) o (Some old) (Some new)) (sym there) is
+
+pub left_unwritten : (o : Option Item) (i : Item) (old new : MediumView) → o ≡ Some i → HasWritten i.fseq i.sum old new (Some err.Fault) → LeavesMedium (Some (done.Fault (call.Write i.fseq))) o (Some old) (Some new)
+left_unwritten o i old new there is = subst (λ (o : Option Item). LeavesMedium (Some (done.Fault (call.Write i.fseq))) o (Some old) (Some new)) (sym there) is
+
+pub write_fits : {M : Type 0} (told : M → MediumView) (d : ℕ) (x : Mounted M) (b : Batch) (m : M) (i : Item) (c : Arc Blob Global) → slice_get b.items.items b.at ≡ Some i → c ≡ get_or b.blobs.items b.at c
+    → told m ≡ with_records (written i.fseq (sum_of_blob c)) (told x.medium)
     → (site : Site) (h : History) → FitsState told site h d (state.Writing x b)
     → FitsState told site h d (state.Writing (after x m) (record { items = b.items; blobs = b.blobs; at = b.at + 1; jobs = b.jobs; one = b.one }))
 write_fits told d x b m i c there is_blob records site h fits =
-    let s : Sum256 = sum_of_blob c in
     let w : IsWriting told h d x b = fits.state in
     let low : b.at < length b.items.items = slice_get_within b.items.items b.at i there in
-    let many : length b.blobs.items ≡ length b.items.items = sym (length-map _ _) ∙ ap length w.batch.blobs ∙ length-map _ _ in
-    let blob : slice_get (blob_sums b.blobs.items) b.at ≡ Some s = get_map sum_of_blob b.blobs.items b.at c (omega (arith, low, many)) is_blob in
-    let is_sum : s ≡ i.sum = sum_at _ b.items.items b.at s i w.batch.blobs there blob in
-    let records' : told m ≡ option_map (written i.fseq i.sum) (told x.medium) = subst (λ (z : Sum256). told m ≡ option_map (written i.fseq z) (told x.medium)) is_sum records in
+    let records' : told m ≡ with_records (written i.fseq i.sum) (told x.medium) = subst (λ (z : Sum256). told m ≡ with_records (written i.fseq z) (told x.medium)) (blob_sum told h d x b i c there is_blob w) records in
+    let inner : (told m).records ≡ option_map (written i.fseq i.sum) (told x.medium).records = ap (λ (m : MediumView). m.records) records' in
     let num : i.fseq ≡ length (tape_items h x.tape) + 1 + b.at = numbered_at (length (tape_items h x.tape) + 1) b.items.items b.at i w.batch.numbered there in
     record {
       known = fits.known;
       state = record {
         batch = record {
-          at = record { mount = w.batch.at.mount; medium = both (told x.medium) (told m) records' num w.batch.at.medium w.written };
+          at = record { mount = w.batch.at.mount; medium = record { label = ap (λ (m : MediumView). m.label) records' ∙ w.batch.at.medium.label; truth = both (told x.medium).records (told m).records inner num w.batch.at.medium.truth w.written } };
           way = w.batch.way;
           some = w.batch.some;
           claims = w.batch.claims;
@@ -252,7 +272,7 @@ write_fits told d x b m i c there is_blob records site h fits =
           blobs = w.batch.blobs;
         };
         filled = record { jobs = w.filled.jobs; one = w.filled.one; count = omega (arith, low) };
-        written = told_map (AreWritten (length (tape_items h x.tape)) b.items.items b.at) _ (written i.fseq i.sum) (told x.medium) (told m) records' (λ t is. more_written (length (tape_items h x.tape)) b.items.items b.at i t w.batch.numbered there is) w.written;
+        written = told_map (AreWritten (length (tape_items h x.tape)) b.items.items b.at) _ (written i.fseq i.sum) (told x.medium).records (told m).records inner (λ t is. more_written (length (tape_items h x.tape)) b.items.items b.at i t w.batch.numbered there is) w.written;
       };
     }
   where
@@ -261,7 +281,7 @@ write_fits told d x b m i c there is_blob records site h fits =
     both (Some t) new e num is long = rw e (true_written h x.tape t i.fseq i.sum (omega (arith, num)) (let l = long.long in omega (arith, num, l)) is)
 
 -- after a fault of a write its item is charged, and the others return
-pub write_fault_fits : {M : Type 0} (told : M → Option TapeRecords) (d : ℕ) (x : Mounted M) (b : Batch) (m : M) (o : Outcome) (i : Item) (s : Sum256) (nobody : Job) (charged returned : Listed Job) → slice_get b.items.items b.at ≡ Some i
+pub write_fault_fits : {M : Type 0} (told : M → MediumView) (d : ℕ) (x : Mounted M) (b : Batch) (m : M) (o : Outcome) (i : Item) (s : Sum256) (nobody : Job) (charged returned : Listed Job) → slice_get b.items.items b.at ≡ Some i
     → charged.items ≡ get_or b.jobs.items b.at nobody ∷ [] → charged.items ++ returned.items ≡ parted nobody b.jobs.items b.at → HasWritten i.fseq s (told x.medium) (told m) (Some err.Fault)
     → (site : Site) (h : History) → FitsState told site h d (state.Writing x b) → FitsOpen told site h d (state.Leaving (after x m)) (asked.Known o) (ask.Failed x.mount fault.Write charged returned) hand.Nothing
 write_fault_fits told d x b m o i s nobody charged returned there one named records site h fits =
@@ -290,7 +310,7 @@ pub parted_of : (nobody : Job) (jobs charged returned : List Job) (n : ℕ) → 
 unfolding parted
 parted_of nobody jobs charged returned n ec er = rw (ec, er) refl
 
-pub write_charges : {M : Type 0} (told : M → Option TapeRecords) (d : ℕ) (x : Mounted M) (b : Batch) (i : Item) (nobody : Job) (charged returned : Listed Job) → slice_get b.items.items b.at ≡ Some i
+pub write_charges : {M : Type 0} (told : M → MediumView) (d : ℕ) (x : Mounted M) (b : Batch) (i : Item) (nobody : Job) (charged returned : Listed Job) → slice_get b.items.items b.at ≡ Some i
     → charged.items ≡ get_or b.jobs.items b.at nobody ∷ [] → returned.items ≡ take b.at b.jobs.items ++ drop (suc b.at) b.jobs.items → FitsSome told d (state.Writing x b)
     → charges_in (state.Writing x b) fault.Write ≡ Some (charged.items, returned.items)
 write_charges told d x b i nobody charged returned there ec er some =
@@ -302,13 +322,13 @@ write_charges told d x b i nobody charged returned there ec er some =
 -- ---- the first write
 
 -- a batch is begun with none written
-pub begin_fits : {M : Type 0} (told : M → Option TapeRecords) (d : ℕ) (x : Mounted M) (b : Batch) → b.jobs.items ≡ item_jobs b.items.items → length b.one.items ≡ 1 → b.at ≡ 0
+pub begin_fits : {M : Type 0} (told : M → MediumView) (d : ℕ) (x : Mounted M) (b : Batch) → b.jobs.items ≡ item_jobs b.items.items → length b.one.items ≡ 1 → b.at ≡ 0
     → (site : Site) (h : History) → FitsState told site h d (state.Claimed x b.items b.blobs) → FitsState told site h d (state.Writing x b)
 begin_fits told d x b jobs one none site h fits =
     let w : IsBatch told h d x b.items.items (blob_sums b.blobs.items) = fits.state in
     record {
       known = fits.known;
-      state = record { batch = w; filled = record { jobs = jobs; one = one; count = omega (arith, none) }; written = start (told x.medium) w.at.medium };
+      state = record { batch = w; filled = record { jobs = jobs; one = one; count = omega (arith, none) }; written = start (told x.medium).records w.at.medium.truth };
     }
   where
     start : (o : Option TapeRecords) → IfSome o (IsTrueMedium h x.tape) → IfSome o (AreWritten (length (tape_items h x.tape)) b.items.items b.at)
@@ -316,7 +336,7 @@ begin_fits told d x b jobs one none site h fits =
     start (Some t) is = rw none (record { long = (let a = is.enough in let c = is.within in omega (arith, a, c)); recorded = tt })
 
 -- a write that wanted memory leaves a session that fits
-pub write_waits : {M : Type 0} (told : M → Option TapeRecords) (d : ℕ) (x : Mounted M) (b : Batch) (m : M) → told m ≡ told x.medium
+pub write_waits : {M : Type 0} (told : M → MediumView) (d : ℕ) (x : Mounted M) (b : Batch) (m : M) → told m ≡ told x.medium
     → (site : Site) (h : History) → FitsState told site h d (state.Writing x b) → FitsState told site h d (state.Writing (after x m) b)
 write_waits told d x b m same site h fits =
     let w : IsWriting told h d x b = fits.state in
@@ -324,7 +344,7 @@ write_waits told d x b m same site h fits =
       known = fits.known;
       state = record {
         batch = record {
-          at = record { mount = w.batch.at.mount; medium = subst (λ o. IfSome o (IsTrueMedium h x.tape)) (sym same) w.batch.at.medium };
+          at = record { mount = w.batch.at.mount; medium = subst (IsMediumOf h x.tape) (sym same) w.batch.at.medium };
           way = w.batch.way;
           some = w.batch.some;
           claims = w.batch.claims;
@@ -335,12 +355,12 @@ write_waits told d x b m same site h fits =
           blobs = w.batch.blobs;
         };
         filled = w.filled;
-        written = subst (λ o. IfSome o (AreWritten (length (tape_items h x.tape)) b.items.items b.at)) (sym same) w.written;
+        written = subst (λ (m : MediumView). IfSome m.records (AreWritten (length (tape_items h x.tape)) b.items.items b.at)) (sym same) w.written;
       };
     }
 
 -- what is as a batch with none written was is as that batch before its first write
-before_writing : {M : Type 0} (told : M → Option TapeRecords) (x : Mounted M) (b : Batch) (s : State M) → b.at ≡ 0 → IsAsBefore told (state.Writing x b) s → IsAsBefore told (state.Claimed x b.items b.blobs) s
+before_writing : {M : Type 0} (told : M → MediumView) (x : Mounted M) (b : Batch) (s : State M) → b.at ≡ 0 → IsAsBefore told (state.Writing x b) s → IsAsBefore told (state.Claimed x b.items b.blobs) s
 before_writing told x b (state.Writing y c) none is = (is.0, ap (λ (b : Batch). b.items) is.1, ap (λ (b : Batch). b.blobs) is.1, ap (λ (b : Batch). b.at) is.1 ∙ none)
 before_writing told x b (state.Free) none is = absurd is
 before_writing told x b (state.Held y) none is = absurd is
@@ -349,6 +369,6 @@ before_writing told x b (state.Claimed y items blobs) none is = absurd is
 before_writing told x b (state.Reading y items at) none is = absurd is
 before_writing told x b (state.Leaving y) none is = absurd is
 
-pub begun_before : {M : Type 0} (told : M → Option TapeRecords) (x : Mounted M) (b : Batch) (w : Asked) (s : State M) → b.at ≡ 0 → IsKeptAt told (state.Writing x b) w s → IsKeptAt told (state.Claimed x b.items b.blobs) w s
+pub begun_before : {M : Type 0} (told : M → MediumView) (x : Mounted M) (b : Batch) (w : Asked) (s : State M) → b.at ≡ 0 → IsKeptAt told (state.Writing x b) w s → IsKeptAt told (state.Claimed x b.items b.blobs) w s
 begun_before told x b (asked.Nothing line.Memory) s none is = before_writing told x b s none is
 begun_before told x b _ s none is = tt

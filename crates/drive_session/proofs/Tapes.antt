@@ -1,16 +1,15 @@
 -- What calls of a drive leave true.
-use Rattle.std.proofs.Common.{◌≡◌, ℕ, ◌+◌, ◌-◌, ◌≤◌, zero, suc, List, [], ◌∷◌, ◌++◌, true, subst, arith, length, length-append, length-take, take}
+use Rattle.std.proofs.Common.{◌≡◌, ℕ, ◌+◌, ◌-◌, ◌≤◌, zero, suc, List, [], ◌∷◌, ◌++◌, true, ap, ◌∙◌, subst, arith, length, length-append, length-take, take}
 use Rattle.std.specs.Prelude.{Option, Some, None, Ok, option_map, IfSome, IsSome, slice_get}
 use Rattle.blob.specs.declared.sum.Sum256.{Sum256}
-use Rattle.blob.specs.Records.{TapeRecords}
+use Rattle.blob.specs.Records.{MediumView, TapeRecords, with_records}
 use Rattle.cta_model.specs.declared.asks.Item.{Item}
 use Rattle.cta_model.specs.History.{History}
 use Rattle.cta_model.specs.Tapes.{tape_items}
-use Rattle.blob.specs.Sums.{sum_of}
 use Rattle.media.specs.Drives.{DriveView}
 use Rattle.media.specs.Records.{cut, written, flushed, unloaded, IsCut, MayWrite}
-use Rattle.cta_model.specs.Media.{IsTrueMedium}
-use Rattle.media.specs.Reads.{MayRead, HasRead}
+use Rattle.cta_model.specs.Media.{IsMediumOf, IsTrueMedium}
+use Rattle.media.specs.Reads.{HasRead, HasSafe, IsReadBy, MayRead, record_at}
 use Rattle.drive_session.specs.Records.{AreRecorded, AreNumbered, AreWritten, AreFlushed, AreSafe}
 use Rattle.drive_session.proofs.Lists.{get_take, get_front, get_last, take_next, take_all}
 
@@ -18,6 +17,13 @@ use Rattle.drive_session.proofs.Lists.{get_take, get_front, get_last, take_next,
 pub told_map : (P Q : TapeRecords → Type 0) (f : TapeRecords → TapeRecords) (old new : Option TapeRecords) → new ≡ option_map f old → ((t : TapeRecords) → P t → Q (f t)) → IfSome old P → IfSome new Q
 told_map P Q f None new e step p = rw e tt
 told_map P Q f (Some t) new e step p = rw e (step t p)
+
+-- a medium stays that of its tape, and true, through a change of its records that keeps the truth
+pub medium_map : (h : History) (v : ℕ) (f : TapeRecords → TapeRecords) (old new : MediumView) → new ≡ with_records f old → ((t : TapeRecords) → IsTrueMedium h v t → IsTrueMedium h v (f t)) → IsMediumOf h v old → IsMediumOf h v new
+medium_map h v f old new e step is = record {
+  label = ap (λ (m : MediumView). m.label) e ∙ is.label;
+  truth = told_map (IsTrueMedium h v) (IsTrueMedium h v) f old.records new.records (ap (λ (m : MediumView). m.records) e) step is.truth;
+}
 
 pub true_cut : (h : History) (v : ℕ) (t : TapeRecords) (n : ℕ) → length (tape_items h v) ≤ n → IsTrueMedium h v t → IsTrueMedium h v (cut n t)
 true_cut h v t n le is = record {
@@ -79,14 +85,16 @@ more_written before items at i t num e is =
           (get_last (take (i.fseq - 1) t.records) (i.fseq - 1) i.sum (omega (arith, k, w, long))));
     }
 
-pub may_write : (before : ℕ) (items : List Item) (at : ℕ) (i : Item) (told : Option TapeRecords) → AreNumbered (before + 1) items → slice_get items at ≡ Some i → IfSome told (AreWritten before items at) → MayWrite i.fseq told
-may_write before items at i None num e is = ((let w = numbered_at (before + 1) items at i num e in omega (arith, w)), tt)
-may_write before items at i (Some t) num e is = (let w = numbered_at (before + 1) items at i num e in let long = is.long in (omega (arith, w), omega (arith, w, long)))
+pub may_write : (before : ℕ) (items : List Item) (at : ℕ) (i : Item) (m : MediumView) → AreNumbered (before + 1) items → slice_get items at ≡ Some i → IfSome m.records (AreWritten before items at) → MayWrite i.fseq m
+may_write before items at i m num e is = by m.records is
+  where
+    by : (o : Option TapeRecords) → IfSome o (AreWritten before items at) → (1 ≤ i.fseq) × IfSome o (λ t. i.fseq ≤ length t.records + 1)
+    by None is = ((let w = numbered_at (before + 1) items at i num e in omega (arith, w)), tt)
+    by (Some t) is = (let w = numbered_at (before + 1) items at i num e in let long = is.long in (omega (arith, w), omega (arith, w, long)))
 
 -- a cut keeps the truth
-pub true_less : (h : History) (v : ℕ) (least : TapeRecords → ℕ) (old new : Option TapeRecords) → ((t : TapeRecords) → IsTrueMedium h v t → length (tape_items h v) ≤ least t) → IsCut least old new → IfSome old (IsTrueMedium h v) → IfSome new (IsTrueMedium h v)
-true_less h v least None new low cuts is = rw cuts.2 tt
-true_less h v least (Some t) new low cuts is = rw cuts.2 (true_cut h v t (cuts.0 t) (let a = low t is in let b = cuts.1 t in omega (arith, a, b)) is)
+pub true_less : (h : History) (v : ℕ) (least : TapeRecords → ℕ) (old new : MediumView) → ((t : TapeRecords) → IsTrueMedium h v t → length (tape_items h v) ≤ least t) → IsCut least old new → IsMediumOf h v old → IsMediumOf h v new
+true_less h v least old new low cuts is = medium_map h v (λ t. cut (cuts.0 t) t) old new cuts.2 (λ t was. true_cut h v t (cuts.0 t) (let a = low t was in let b = cuts.1 t in omega (arith, a, b)) was) is
 
 -- after a flush of all items each has a safe record
 pub all_flushed : (before : ℕ) (items : List Item) (t : TapeRecords) → AreWritten before items (length items) t → AreFlushed before items (flushed t)
@@ -103,11 +111,17 @@ flushed_safe before (i ∷ items) t num is =
 
 -- ---- reads
 
-pub may_read : (o : Option TapeRecords) (i : Item) (rest all : List Item) → all ≡ i ∷ rest → IfSome o (λ t. AreSafe t all) → MayRead i.fseq o
-may_read None i rest all e is = tt
-may_read (Some t) i rest all e is = (rw e at is).0
+pub may_read : (m : MediumView) (i : Item) (rest all : List Item) → all ≡ i ∷ rest → IfSome m.records (λ t. AreSafe t all) → MayRead i.fseq m
+may_read m i rest all e is = by m.records is
+  where
+    by : (o : Option TapeRecords) → IfSome o (λ t. AreSafe t all) → IfSome o (HasSafe i.fseq)
+    by None is = tt
+    by (Some t) is = (rw e at is).0
 
--- what an honest drive reads has the sum of its item
-pub honest_read : (d : DriveView) (o : Option TapeRecords) (i : Item) (rest all : List Item) (bytes : List ℕ) → all ≡ i ∷ rest → IfSome o (λ t. AreSafe t all) → HasRead d o i.fseq (Ok bytes) → d.honest ≡ true → IsSome o → sum_of bytes ≡ i.sum
-honest_read d None i rest all bytes e is given h told = absurd (cc)
-honest_read d (Some t) i rest all bytes e is given h told = (let w = rw e at is in let g = rw w.1 at given in g.honest h)
+-- what is read at the place of an item is what the drive gives of the item's record
+pub read_of : (d : DriveView) (m : MediumView) (i : Item) (rest all : List Item) (bytes : List ℕ) → all ≡ i ∷ rest → IfSome m.records (λ t. AreSafe t all) → HasRead d m i.fseq (Ok bytes) → IsSome m.records → IsReadBy d i.sum bytes
+read_of d m i rest all bytes e is given tells = by m.records is given tells
+  where
+    by : (o : Option TapeRecords) → IfSome o (λ t. AreSafe t all) → IfSome o (λ t. IfSome (record_at t i.fseq) (λ sum. IsReadBy d sum bytes)) → IsSome o → IsReadBy d i.sum bytes
+    by None is given tells = absurd (cc)
+    by (Some t) is given tells = (let w = rw e at is in rw w.1 at given)

@@ -1,6 +1,6 @@
 -- What `work` and `take` keep.
 use Rattle.std.specs.Prelude.{◌≡◌, Option, Some, None, Result, Ok, Err, true, false}
-use Rattle.blob.specs.Records.{TapeRecords}
+use Rattle.blob.specs.Records.{MediumView}
 use Rattle.cta_site.specs.declared.no_memory.NoMemory.{NoMemory}
 use Rattle.cta_site.specs.declared.site.Site.{Site}
 use Rattle.cta_model.specs.declared.answers.Answer.{Answer}
@@ -17,25 +17,25 @@ use Rattle.drive_session.specs.Answers.{is_asking, line_after, state_after}
 use Rattle.drive_session.specs.Steps.{FitsReport, FitsSome, IsStep}
 
 -- a session fits a history: with its kept ask, where it has one
-abbrev pub FitsMemo : {M : Type 0} → (M → Option TapeRecords) → Site → History → Memo M → Type 0
+abbrev pub FitsMemo : {M : Type 0} → (M → MediumView) → Site → History → Memo M → Type 0
 FitsMemo told site h s = FitsReport told site h s.number s.state s.asked s.kept
 
 -- where no ask is kept, none is open and the state fits some history
-abbrev pub MayWorkBy : {M : Type 0} → (M → Option TapeRecords) → Memo M → Option (Ask × Hand M) → Type 0
+abbrev pub MayWorkBy : {M : Type 0} → (M → MediumView) → Memo M → Option (Ask × Hand M) → Type 0
 MayWorkBy told s None = (is_asking s.asked ≡ false) × FitsSome told s.number s.state
 MayWorkBy told s (Some q) = is_asking s.asked ≡ true
 
 -- a session may work where no ask is open, but for a kept one
-abbrev pub MayWork : {M : Type 0} → (M → Option TapeRecords) → Memo M → Type 0
+abbrev pub MayWork : {M : Type 0} → (M → MediumView) → Memo M → Type 0
 MayWork told s = MayWorkBy told s s.kept
 
 -- a kept ask is repeated with no call of the device; else the state makes its step
-abbrev pub IsWorkBy : {M : Type 0} → (M → Option TapeRecords) → DriveView → DriveView → Memo M → Memo M → Report M → Option (Ask × Hand M) → Type 0
+abbrev pub IsWorkBy : {M : Type 0} → (M → MediumView) → DriveView → DriveView → Memo M → Memo M → Report M → Option (Ask × Hand M) → Type 0
 IsWorkBy told old new s s' r (Some q) = (s' ≡ record s { kept = None }) × (r ≡ record { device = None; ask = Some q }) × (new ≡ old)
 IsWorkBy told old new s s' r None = (s'.number ≡ s.number) × (s'.kept ≡ None) × IsStep told s.number s.state old new (record { state = s'.state; asked = s'.asked; report = r })
 
 -- what `work` makes of what a session keeps
-abbrev pub IsWork : {M : Type 0} → (M → Option TapeRecords) → DriveView → DriveView → Memo M → Memo M → Report M → Type 0
+abbrev pub IsWork : {M : Type 0} → (M → MediumView) → DriveView → DriveView → Memo M → Memo M → Report M → Type 0
 IsWork told old new s s' r = IsWorkBy told old new s s' r s.kept
 
 -- a want of memory keeps the ask with what goes with it, and nothing else changes; an answer leads on

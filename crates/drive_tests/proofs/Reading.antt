@@ -26,12 +26,12 @@ use Rattle.cta_model.specs.Mounts.{claimed_items, is_open, item_jobs, mount_of}
 use Rattle.cta_model.specs.Places.{place_after, place_of}
 use Rattle.media.specs.declared.mem_medium.MemMedium.{MemMedium}
 use Rattle.media.specs.Drives.{DriveView}
-use Rattle.media.specs.Memory.{mem_tape}
+use Rattle.media.specs.Memory.{mem_medium, mem_tape}
 use Rattle.drive_session.specs.Answers.{batch_by, state_after}
 use Rattle.drive_session.specs.Fits.{FitsClaim, FitsState, IsRest}
 use Rattle.drive_session.specs.Records.{AreOfFiles, AreSafe}
 use Rattle.drive_session.specs.Steps.{FitsReport, has_ask, is_loaded_in}
-use Rattle.drive_session.specs.Works.{FitsMemo, IsTaken, IsWork, IsWorkBy}
+use Rattle.drive_session.specs.Works.{FitsMemo, IsTaken, IsWork, IsWorkBy, MayWork, MayWorkBy}
 use Rattle.drive_session.specs.declared.reports.Report.{Report}
 use Rattle.drive_session.specs.declared.reports.StepLine.{StepLine}
 use Rattle.drive_session.specs.declared.session.Memo.{Memo}
@@ -40,7 +40,7 @@ use Rattle.drive_session.specs.declared.states.Asked.TheVariants as asked
 use Rattle.drive_session.specs.declared.states.Mounted.{Mounted}
 use Rattle.drive_session.specs.declared.states.State.{State}
 use Rattle.drive_session.specs.declared.states.State.TheVariants as state
-use Rattle.drive_tests.specs.OneRecord.{Fits, IsClaim, history, read_item, telling}
+use Rattle.drive_tests.specs.OneRecord.{Fits, IsClaim, history, read_item}
 
 -- ---- the medium
 
@@ -78,17 +78,22 @@ tells s a t m = record { within = m.within; some = m.enough; first = (m.named 1 
 
 -- ---- steps
 
-fits_memo : (site : Site) (s : Sum256) (a : Answer) (m : Memo MemMedium) → Fits site s a m → FitsMemo telling site (history s a) m
+fits_memo : (site : Site) (s : Sum256) (a : Answer) (m : Memo MemMedium) → Fits site s a m → FitsMemo mem_medium site (history s a) m
 fits_memo site s a m f =
-    let state : FitsState telling site (history s a) m.number m.state = subst (λ n. FitsState telling site (history s a) n m.state) (sym f.number) f.state in
-    subst (λ (k : Option (Ask × Hand MemMedium)). FitsReport telling site (history s a) m.number m.state m.asked k) (sym f.kept) state
+    let state : FitsState mem_medium site (history s a) m.number m.state = subst (λ n. FitsState mem_medium site (history s a) n m.state) (sym f.number) f.state in
+    subst (λ (k : Option (Ask × Hand MemMedium)). FitsReport mem_medium site (history s a) m.number m.state m.asked k) (sym f.kept) state
+
+pub may_work : (site : Site) (s : Sum256) (a : Answer) (m : Memo MemMedium) → Fits site s a m → MayWork mem_medium m
+may_work site s a m f =
+    let state : FitsState mem_medium site (history s a) m.number m.state = subst (λ n. FitsState mem_medium site (history s a) n m.state) (sym f.number) f.state in
+    subst (λ (k : Option (Ask × Hand MemMedium)). MayWorkBy mem_medium m k) (sym f.kept) (f.still, (site, (history s a, state)))
 
 -- what a step without a kept ask leaves
-works_by : (m m' : Memo MemMedium) (old new : DriveView) (r : Report MemMedium) → m.kept ≡ None → IsWork telling old new m m' r → IsWorkBy telling old new m m' r None
-works_by m m' old new r none work = subst (λ (k : Option (Ask × Hand MemMedium)). IsWorkBy telling old new m m' r k) none work
+works_by : (m m' : Memo MemMedium) (old new : DriveView) (r : Report MemMedium) → m.kept ≡ None → IsWork mem_medium old new m m' r → IsWorkBy mem_medium old new m m' r None
+works_by m m' old new r none work = subst (λ (k : Option (Ask × Hand MemMedium)). IsWorkBy mem_medium old new m m' r k) none work
 
 -- what is asked, and what it leaves of the state
-nothing_asked : (site : Site) (h : History) (n : ℕ) (x : State MemMedium) (w : Asked) (q : Option (Ask × Hand MemMedium)) → is_none q ≡ true → FitsReport telling site h n x w q → FitsState telling site h n x
+nothing_asked : (site : Site) (h : History) (n : ℕ) (x : State MemMedium) (w : Asked) (q : Option (Ask × Hand MemMedium)) → is_none q ≡ true → FitsReport mem_medium site h n x w q → FitsState mem_medium site h n x
 nothing_asked site h n x w None e f = f
 nothing_asked site h n x w (Some q) e f = absurd (cc)
 
@@ -96,8 +101,8 @@ has_nothing : (q : Option (Ask × Hand MemMedium)) → is_none q ≡ true → ha
 has_nothing None e = refl
 has_nothing (Some q) e = absurd (cc)
 
-pub step_fits : (site : Site) (s : Sum256) (a : Answer) (m m' : Memo MemMedium) (old new : DriveView) (r : Report MemMedium) → Fits site s a m → IsWork telling old new m m' r
-    → (FitsMemo telling site (history s a) m → FitsReport telling site (history s a) m'.number m'.state m'.asked r.ask) → is_none r.ask ≡ true → Fits site s a m'
+pub step_fits : (site : Site) (s : Sum256) (a : Answer) (m m' : Memo MemMedium) (old new : DriveView) (r : Report MemMedium) → Fits site s a m → IsWork mem_medium old new m m' r
+    → (FitsMemo mem_medium site (history s a) m → FitsReport mem_medium site (history s a) m'.number m'.state m'.asked r.ask) → is_none r.ask ≡ true → Fits site s a m'
 step_fits site s a m m' old new r f work law none =
     let w = works_by m m' old new r f.kept work in
     let number : m'.number ≡ 0 = w.0 ∙ f.number in
@@ -105,15 +110,15 @@ step_fits site s a m m' old new r f work law none =
       number = number;
       kept = w.1;
       still = w.2.waits ∙ has_nothing r.ask none;
-      state = subst (λ n. FitsState telling site (history s a) n m'.state) number (nothing_asked site (history s a) m'.number m'.state m'.asked r.ask none (law (fits_memo site s a m f)));
+      state = subst (λ n. FitsState mem_medium site (history s a) n m'.state) number (nothing_asked site (history s a) m'.number m'.state m'.asked r.ask none (law (fits_memo site s a m f)));
     }
 
 -- ---- the batch
 
-claim_fits : (site : Site) (h : History) (n : ℕ) (x : State MemMedium) (w : Asked) (q : Option (Ask × Hand MemMedium)) → IsClaim q → FitsReport telling site h n x w q
-    → (n < length site.drives.items) × ((k : Hand MemMedium) × FitsClaim telling h n x w 4 k)
+claim_fits : (site : Site) (h : History) (n : ℕ) (x : State MemMedium) (w : Asked) (q : Option (Ask × Hand MemMedium)) → IsClaim q → FitsReport mem_medium site h n x w q
+    → (n < length site.drives.items) × ((k : Hand MemMedium) × FitsClaim mem_medium h n x w 4 k)
 claim_fits site h n x w None is f = absurd is
-claim_fits site h n x w (Some (ask.Claim m, k)) is f = (f.known, (k, subst (λ j. FitsClaim telling h n x w j k) is f.asked))
+claim_fits site h n x w (Some (ask.Claim m, k)) is f = (f.known, (k, subst (λ j. FitsClaim mem_medium h n x w j k) is f.asked))
 claim_fits site h n x w (Some (_, k)) is f = absurd is
 
 read_batch : (way : Direction) (is : List Item) (i : Item) (x : Mounted MemMedium) (items : Listed Item) → way ≡ direction.Retrieve → is ≡ i ∷ [] → batch_by way is x items hand.Nothing ≡ state.Reading x items 0
@@ -127,8 +132,8 @@ are_safe s t is one e =
     subst (AreSafe t) (sym e) (record { from = omega arith; safe = one.some; there = omega (arith, one.some, one.within) }, one.first, tt)
 
 -- a mount that has got this batch
-reading : (site : Site) (s : Sum256) (x : Mounted MemMedium) (items : Listed Item) (evicted : Listed ℕ) → 0 < length site.drives.items → 4 ≡ x.mount → IsRest telling (history s answer.Nothing) 0 x → items.items ≡ read_item s ∷ []
-    → FitsState telling site (history s (answer.Batch items evicted)) 0 (state.Reading x items 0) × (x.direction ≡ direction.Retrieve)
+reading : (site : Site) (s : Sum256) (x : Mounted MemMedium) (items : Listed Item) (evicted : Listed ℕ) → 0 < length site.drives.items → 4 ≡ x.mount → IsRest mem_medium (history s answer.Nothing) 0 x → items.items ≡ read_item s ∷ []
+    → FitsState mem_medium site (history s (answer.Batch items evicted)) 0 (state.Reading x items 0) × (x.direction ≡ direction.Retrieve)
 reading site s x items evicted drives number rest is =
     let before = history s answer.Nothing in
     let after = history s (answer.Batch items evicted) in
@@ -138,14 +143,14 @@ reading site s x items evicted drives number rest is =
     let way : direction.Retrieve ≡ x.direction = ap (λ (m : Mount). m.direction) same in
     let tape : 0 ≡ x.tape = ap (λ (m : Mount). m.tape) same in
     let t = mem_tape x.medium in
-    let one : HasOne s t = tells s answer.Nothing t (subst (λ v. IsTrueMedium before v t) (sym tape) rest.at.medium) in (
+    let one : HasOne s t = tells s answer.Nothing t (subst (λ v. IsTrueMedium before v t) (sym tape) rest.at.medium.truth) in (
       record {
         known = drives;
         state = record {
           unread = record {
             at = record {
               mount = record { still = subst (λ n. is_open after n ≡ true) number refl; mount = subst (λ n. mount_of after n ≡ Some mount) number at };
-              medium = subst (λ v. IsTrueMedium after v t) tape (sound s (answer.Batch items evicted) t one);
+              medium = record { label = rest.at.medium.label; truth = subst (λ v. IsTrueMedium after v t) tape (sound s (answer.Batch items evicted) t one) };
             };
             way = sym way;
             once = ap (λ (l : List Item). names_twice (item_jobs l)) is;
@@ -158,18 +163,18 @@ reading site s x items evicted drives number rest is =
       sym way,
     )
 
-pub claim_asked : (site : Site) (s : Sum256) (m m' : Memo MemMedium) (old new : DriveView) (r : Report MemMedium) → Fits site s answer.Nothing m → IsWork telling old new m m' r
-    → (FitsMemo telling site (history s answer.Nothing) m → FitsReport telling site (history s answer.Nothing) m'.number m'.state m'.asked r.ask) → IsClaim r.ask
-    → (m'.number ≡ 0) × (m'.kept ≡ None) × (0 < length site.drives.items) × ((k : Hand MemMedium) × FitsClaim telling (history s answer.Nothing) 0 m'.state m'.asked 4 k)
+pub claim_asked : (site : Site) (s : Sum256) (m m' : Memo MemMedium) (old new : DriveView) (r : Report MemMedium) → Fits site s answer.Nothing m → IsWork mem_medium old new m m' r
+    → (FitsMemo mem_medium site (history s answer.Nothing) m → FitsReport mem_medium site (history s answer.Nothing) m'.number m'.state m'.asked r.ask) → IsClaim r.ask
+    → (m'.number ≡ 0) × (m'.kept ≡ None) × (0 < length site.drives.items) × ((k : Hand MemMedium) × FitsClaim mem_medium (history s answer.Nothing) 0 m'.state m'.asked 4 k)
 claim_asked site s m m' old new r f work law is =
     let w = works_by m m' old new r f.kept work in
     let number : m'.number ≡ 0 = w.0 ∙ f.number in
     let h = history s answer.Nothing in
     let c = claim_fits site h m'.number m'.state m'.asked r.ask is (law (fits_memo site s answer.Nothing m f)) in
-    (number, w.1, omega (arith, c.0), subst (λ n. (k : Hand MemMedium) × FitsClaim telling h n m'.state m'.asked 4 k) number c.1)
+    (number, w.1, omega (arith, c.0), subst (λ n. (k : Hand MemMedium) × FitsClaim mem_medium h n m'.state m'.asked 4 k) number c.1)
 
 pub batch_taken : (site : Site) (s : Sum256) (m m' : Memo MemMedium) (items : Listed Item) (evicted : Listed ℕ) (l : StepLine) → (m.number ≡ 0) × (m.kept ≡ None) × (0 < length site.drives.items)
-    × ((k : Hand MemMedium) × FitsClaim telling (history s answer.Nothing) 0 m.state m.asked 4 k)
+    × ((k : Hand MemMedium) × FitsClaim mem_medium (history s answer.Nothing) 0 m.state m.asked 4 k)
     → items.items ≡ read_item s ∷ [] → IsTaken m m' (Ok (answer.Batch items evicted, hand.Nothing)) l → Fits site s (answer.Batch items evicted) m' × (is_loaded_in m.state ≡ is_loaded_in m'.state)
 batch_taken site s m m' items evicted l f is taken =
     let c = f.3.1 in

@@ -1,6 +1,6 @@
 -- A mount that reads the one record of its tape, for the test of a read that is altered.
 use Rattle.std.specs.Prelude.{◌≡◌, [], ◌∷◌, Option, Some, None, false}
-use Rattle.blob.specs.Records.{TapeRecords}
+use Rattle.blob.specs.Records.{MediumView}
 use Rattle.blob.specs.declared.sum.Sum256.{Sum256}
 use Rattle.cta_site.specs.Listed.{rows}
 use Rattle.cta_site.specs.declared.site.Site.{Site}
@@ -16,14 +16,14 @@ use Rattle.cta_model.specs.declared.entries.Entry.{Entry}
 use Rattle.cta_model.specs.declared.hands.Hand.{Hand}
 use Rattle.cta_model.specs.History.{History}
 use Rattle.media.specs.declared.mem_medium.MemMedium.{MemMedium}
-use Rattle.media.specs.Memory.{mem_tape}
+use Rattle.media.specs.Memory.{mem_medium}
 use Rattle.drive_session.specs.Answers.{is_asking}
 use Rattle.drive_session.specs.Fits.{FitsState}
 use Rattle.drive_session.specs.declared.session.Memo.{Memo}
 
--- one record with this sum, which is safe
-abbrev pub one_record : Sum256 → TapeRecords
-one_record s = record { records = s ∷ []; safe = 1 }
+-- the medium of the tape 0, with one record, which has this sum and is safe
+abbrev pub one_record : Sum256 → MediumView
+one_record s = record { label = 0; records = Some (record { records = s ∷ []; safe = 1 }) }
 
 -- copy 1 of file 1, at fSeq 1
 abbrev pub written_item : Sum256 → Item
@@ -47,16 +47,12 @@ history s a =
     ∷ by_drive (ask.Put (record { requester = []; group = [] }) [] s) (answer.Stored (rows []))
     ∷ []
 
--- a medium in memory tells its records
-abbrev pub telling : MemMedium → Option TapeRecords
-telling m = Some (mem_tape m)
-
 -- a session of the drive 0 without an open ask fits the history in which its mount got this answer
 pub record Fits (site : Site) (s : Sum256) (a : Answer) (m : Memo MemMedium) : Type 0 where
   pub number : m.number ≡ 0
   pub kept : m.kept ≡ None
   pub still : is_asking m.asked ≡ false
-  pub state : FitsState telling site (history s a) 0 m.state
+  pub state : FitsState mem_medium site (history s a) 0 m.state
 
 -- a Claim of the mount 4 is asked
 abbrev pub IsClaim : Option (Ask × Hand MemMedium) → Type 0

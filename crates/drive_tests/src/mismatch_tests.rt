@@ -9,7 +9,7 @@ ghost use Rattle.drive_session.specs.Steps.{is_loaded_in};
 ghost use Rattle.drive_session.specs.declared.reports.StepLine.TheVariants as line;
 ghost use Rattle.drive_session.specs.declared.states.Asked.TheVariants as asked;
 ghost use Rattle.drive_session.specs.declared.states.State.TheVariants as state;
-ghost use Rattle.media.specs.Memory.{mem_drive, mem_tape};
+ghost use Rattle.media.specs.Memory.{mem_drive, mem_medium};
 ghost use Rattle.drive_tests.specs.OneRecord.{Fits, IsClaim, one_record, read_item};
 
 use crate::session_tests::site_of;
@@ -40,12 +40,12 @@ fn hello(alloc: Global) -> Option<Arc<Blob>> {
     Arc::new(alloc, blob).ok()
 }
 
-// A medium whose one record has this content, and is safe.
+// A medium of the tape 0 whose one record has this content, and is safe.
 fn recorded(alloc: Global, blob: &Arc<Blob>) -> Option<MemMedium>
-    ensures { IfSome result (λ m. mem_tape m ≡ one_record (sum_of (arc_value blob.now))) }
+    ensures { IfSome result (λ m. mem_medium m ≡ one_record (sum_of (arc_value blob.now))) }
 {
     let mut drive = MemDrive::new(alloc, Vec::new(alloc));
-    let mut medium = MemMedium::new(alloc);
+    let mut medium = MemMedium::new(alloc, 0);
     drive.load(&mut medium).ok()?;
     drive.write(&mut medium, 1, blob).ok()?;
     drive.flush(&mut medium).ok()?;
@@ -83,7 +83,7 @@ fn asks_next(session: &mut Session<MemDrive>, drive: &mut MemDrive, site: &Valid
 // It is to mount the tape with this medium, to read from it.
 fn mounts(session: &mut Session<MemDrive>, medium: MemMedium, site: &ValidSite, sum: Sum256)
     requires asked { session.old ≡ record { number = 0; state = state.Free; asked = asked.Next; kept = None } }
-    requires medium { mem_tape medium ≡ one_record sum }
+    requires medium { mem_medium medium ≡ one_record sum }
     requires drives { 0 < length site.now.drives.items }
     ensures fits { Fits site.now sum answer.Nothing session.new }
     ensures state { is_loaded_in session.new.state ≡ false }
@@ -185,6 +185,51 @@ fn batch_of(alloc: Global, sum: Sum256) -> Option<(Rows<Item>, Rows<u32>)>
     Some((Rows::of(items), Rows::of(Vec::new(alloc))))
 }
 
+// The sums of the mismatch of a session that has this medium and is to load it.
+fn sums_read(
+    session: &mut Session<MemDrive>,
+    drive: &mut MemDrive,
+    site: &ValidSite,
+    sum: Sum256,
+    batch: (Rows<Item>, Rows<u32>),
+) -> Option<(Sum256, Sum256)>
+    requires fits { Fits site.now sum answer.Nothing session.old }
+    requires loaded { (mem_drive drive.old).loaded ≡ is_loaded_in session.old.state }
+    requires items { batch.0.items ≡ read_item sum ∷ [] }
+{
+    if loads(session, drive, site, sum) {
+        if claims(session, drive, site, sum, batch) {
+            return reads(session, drive, site, sum);
+        }
+        return None;
+    }
+    drop(batch);
+    None
+}
+
+// The sums of the mismatch of a new session that reads the one record of this medium.
+fn sums_with(
+    alloc: Global,
+    site: &ValidSite,
+    sum: Sum256,
+    batch: (Rows<Item>, Rows<u32>),
+    medium: MemMedium,
+    mut drive: MemDrive,
+) -> Option<(Sum256, Sum256)>
+    requires drives { 0 < length site.now.drives.items }
+    requires items { batch.0.items ≡ read_item sum ∷ [] }
+    requires medium { mem_medium medium ≡ one_record sum }
+    requires loaded { (mem_drive drive).loaded ≡ false }
+{
+    let mut session: Session<MemDrive> = Session::new(alloc, 0);
+    asks_next(&mut session, &mut drive, site);
+    mounts(&mut session, medium, site, sum);
+    let sums = sums_read(&mut session, &mut drive, site, sum, batch);
+    drop(session);
+    drop(drive);
+    sums
+}
+
 // The sums of the mismatch of a session that reads one record.
 fn sums_of(alloc: Global, site: &ValidSite) -> Option<(Sum256, Sum256)>
     requires { 0 < length site.now.drives.items }
@@ -193,16 +238,8 @@ fn sums_of(alloc: Global, site: &ValidSite) -> Option<(Sum256, Sum256)>
     let sum = blob.sum();
     let batch = batch_of(alloc, sum)?;
     let medium = recorded(alloc, &blob)?;
-    let mut drive = altering(alloc)?;
-    let mut session: Session<MemDrive> = Session::new(alloc, 0);
-    asks_next(&mut session, &mut drive, site);
-    mounts(&mut session, medium, site, sum);
-    if loads(&mut session, &mut drive, site, sum)
-        && claims(&mut session, &mut drive, site, sum, batch)
-    {
-        return reads(&mut session, &mut drive, site, sum);
-    }
-    None
+    let drive = altering(alloc)?;
+    sums_with(alloc, site, sum, batch, medium, drive)
 }
 
 fn told(alloc: Global) -> Option<(Sum256, Sum256)> {

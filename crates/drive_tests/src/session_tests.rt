@@ -110,7 +110,7 @@ fn mounts(alloc: Global, site: &ValidSite) -> bool
         direction,
         tape,
     };
-    let hand = Hand::Medium(MemMedium::new(alloc));
+    let hand = Hand::Medium(MemMedium::new(alloc, 0));
     first_line(alloc, site, answer, hand) == Some(StepLine::Mount { direction, tape })
 }
 

@@ -3,7 +3,7 @@ use Rattle.std.proofs.Common.{◌≡◌, ◌∙◌, ℕ, ◌+◌, ◌<◌, inl, 
 use Rattle.std.specs.Prelude.{Option, Some, None, IfSome, if◌then◌else◌, ◌==◌, filter}
 use Rattle.std.specs.List.{list_any}
 use Rattle.std.proofs.lemmas.Bool.{and_parts, eqb-true, eq-eqb}
-use Rattle.blob.specs.Records.{TapeRecords}
+use Rattle.blob.specs.Records.{MediumView, TapeRecords}
 use Rattle.cta_site.specs.declared.site.Site.{Site}
 use Rattle.cta_model.specs.declared.asks.Ask.{Ask}
 use Rattle.cta_model.specs.declared.asks.Ask.TheVariants as ask
@@ -16,7 +16,7 @@ use Rattle.cta_model.specs.declared.states.Mount.{Mount}
 use Rattle.cta_model.specs.History.{History, has_number, is_empty}
 use Rattle.cta_model.specs.Mounts.{claimed_items, is_mount, is_mounted, is_open, mount_in, mount_of, open_after, open_mounts, tape_by, tape_of_mount}
 use Rattle.cta_model.specs.Answers.{answer_of}
-use Rattle.cta_model.specs.Media.{IsTrueMedium}
+use Rattle.cta_model.specs.Media.{IsMediumOf, IsTrueMedium}
 use Rattle.cta_model.specs.Legal.{IsLegal}
 use Rattle.cta_laws.specs.Changes.{may_change_mounts}
 use Rattle.cta_laws.specs.Media.{puts_on}
@@ -72,19 +72,22 @@ mounted_stays site h e v legal quiet =
     forth x = (x.0, ap (has_number x.0) (mounts_same e h quiet) ∙ x.1, tape_older e h x.0 x.1 ∙ x.2)
 
 -- a medium that is true stays true where its tape is not mounted
-told_stays : (site : Site) (h : History) (e : Entry) (v : ℕ) (x : Option TapeRecords) → IsLegal site (e ∷ h) → is_mounted h v ≡ false → IfSome x (IsTrueMedium h v) → IfSome x (IsTrueMedium (e ∷ h) v)
-told_stays site h e v None legal off is = is
-told_stays site h e v (Some t) legal off is = shelf_stays_true site h e v t legal off is
+records_stay : (site : Site) (h : History) (e : Entry) (v : ℕ) (x : Option TapeRecords) → IsLegal site (e ∷ h) → is_mounted h v ≡ false → IfSome x (IsTrueMedium h v) → IfSome x (IsTrueMedium (e ∷ h) v)
+records_stay site h e v None legal off is = is
+records_stay site h e v (Some t) legal off is = shelf_stays_true site h e v t legal off is
+
+told_stays : (site : Site) (h : History) (e : Entry) (v : ℕ) (x : MediumView) → IsLegal site (e ∷ h) → is_mounted h v ≡ false → IsMediumOf h v x → IsMediumOf (e ∷ h) v x
+told_stays site h e v x legal off is = record { label = is.label; truth = records_stay site h e v x.records legal off is.truth }
 
 -- a place of a tape that stays as it was
-place_stays : (site : Site) (h : History) (e : Entry) (v : ℕ) (b : Bool) (o : Option (Option TapeRecords)) → IsLegal site (e ∷ h) → is_mounted h v ≡ b → IsPlaceOf h v b o → IsPlaceOf (e ∷ h) v b o
+place_stays : (site : Site) (h : History) (e : Entry) (v : ℕ) (b : Bool) (o : Option MediumView) → IsLegal site (e ∷ h) → is_mounted h v ≡ b → IsPlaceOf h v b o → IsPlaceOf (e ∷ h) v b o
 place_stays site h e v true None legal on is = is
 place_stays site h e v true (Some x) legal on is = absurd is
 place_stays site h e v false None legal on is = absurd is
 place_stays site h e v false (Some x) legal on is = told_stays site h e v x legal on is
 
 -- the place of a tape whose being mounted stays
-place_kept : (site : Site) (h : History) (e : Entry) (v : ℕ) (o : Option (Option TapeRecords)) → IsLegal site (e ∷ h) → is_mounted (e ∷ h) v ≡ is_mounted h v → IsPlaceOf h v (is_mounted h v) o → IsPlaceOf (e ∷ h) v (is_mounted (e ∷ h) v) o
+place_kept : (site : Site) (h : History) (e : Entry) (v : ℕ) (o : Option MediumView) → IsLegal site (e ∷ h) → is_mounted (e ∷ h) v ≡ is_mounted h v → IsPlaceOf h v (is_mounted h v) o → IsPlaceOf (e ∷ h) v (is_mounted (e ∷ h) v) o
 place_kept site h e v o legal same is = subst (λ (b : Bool). IsPlaceOf (e ∷ h) v b o) (sym same) (place_stays site h e v (is_mounted h v) o legal refl is)
 
 pub shelf_starts_full : ShelfStartsFull
@@ -126,7 +129,7 @@ next_mounts site h e d m v way legal ek ea t =
         ]
 
 -- a medium at the place of a tape that is not mounted
-medium_there : (h : History) (v : ℕ) (b : Bool) (o : Option (Option TapeRecords)) → b ≡ false → IsPlaceOf h v b o → (x : Option TapeRecords) × (o ≡ Some x) × IfSome x (IsTrueMedium h v)
+medium_there : (h : History) (v : ℕ) (b : Bool) (o : Option MediumView) → b ≡ false → IsPlaceOf h v b o → (x : MediumView) × (o ≡ Some x) × IsMediumOf h v x
 medium_there h v true o off is = absurd (cc)
 medium_there h v false None off is = absurd is
 medium_there h v false (Some x) off is = (x, refl, is)
@@ -227,7 +230,7 @@ end_brings_medium site h e m fault x shelf legal ek true_now is t low = by (t ==
     by true hit =
         let off : is_mounted (e ∷ h) t ≡ false = end_mounts site h e m fault legal ek t ∙ ap (λ (b : Bool). not b && is_mounted h t) hit in
         let same : tape_of_mount h m ≡ t = sym (eqb-true t (tape_of_mount h m) hit) in
-        subst (λ (b : Bool). IsPlaceOf (e ∷ h) t b (Some x)) (sym off) (subst (λ (n : ℕ). IfSome x (IsTrueMedium (e ∷ h) n)) same (told x true_now))
+        subst (λ (b : Bool). IsPlaceOf (e ∷ h) t b (Some x)) (sym off) (subst (λ (n : ℕ). IsMediumOf (e ∷ h) n x) same (record { label = true_now.label; truth = told x.records true_now.truth }))
     by false miss =
         let same : is_mounted (e ∷ h) t ≡ is_mounted h t = end_mounts site h e m fault legal ek t ∙ ap (λ (b : Bool). not b && is_mounted h t) miss in
         place_kept site h e t (shelf t) legal same (is t low)

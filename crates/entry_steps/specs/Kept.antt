@@ -1,7 +1,7 @@
 -- All that an archive keeps beside its entries, and what it stands for.
-use Rattle.std.specs.Prelude.{ℕ, ◌≡◌, Option, IfSome}
+use Rattle.std.specs.Prelude.{ℕ, ◌≡◌, Option}
 use Rattle.blob.specs.declared.sum.Sum256.{Sum256}
-use Rattle.blob.specs.Records.{TapeRecords}
+use Rattle.blob.specs.Records.{MediumView}
 use Rattle.cta_site.specs.declared.site.Site.{Site}
 use Rattle.cta_model.specs.declared.asks.Ask.{Ask}
 use Rattle.cta_model.specs.declared.asks.Ask.TheVariants as ask
@@ -10,7 +10,7 @@ use Rattle.cta_model.specs.declared.answers.Answer.TheVariants as answer
 use Rattle.cta_model.specs.declared.entries.Entry.{Entry}
 use Rattle.cta_model.specs.History.{History}
 use Rattle.cta_model.specs.Mounts.{tape_of_mount}
-use Rattle.cta_model.specs.Media.{IsTrueMedium}
+use Rattle.cta_model.specs.Media.{IsMediumOf}
 use Rattle.cta_model.specs.Legal.{IsLegal}
 use Rattle.entry_steps.specs.AllParts.{AllParts}
 use Rattle.entry_steps.specs.Stands.{AreCalled, Stands}
@@ -35,7 +35,7 @@ pub record IsKept (site : Site) (h : History) (k : KeptValues) : Type 0 where
 -- which is true for the history before it where it tells
 abbrev pub ShelfCalled : History → Ask → Answer → Shelf → Shelf → Type 0
 ShelfCalled h (ask.Next d) (answer.Mounted m way v) s s' = (t : ℕ) → s' t ≡ without_tape v s t
-ShelfCalled h (ask.End m fault) a s s' = (x : Option TapeRecords) × IfSome x (IsTrueMedium h (tape_of_mount h m)) × ((t : ℕ) → s' t ≡ with_tape (tape_of_mount h m) x s t)
+ShelfCalled h (ask.End m fault) a s s' = (x : MediumView) × IsMediumOf h (tape_of_mount h m) x × ((t : ℕ) → s' t ≡ with_tape (tape_of_mount h m) x s t)
 ShelfCalled h _ a s s' = (t : ℕ) → s' t ≡ s t
 
 -- the calls for the entry e are made on all that is kept

@@ -19,14 +19,14 @@ use turn_hall::{Hall, Keeps, Pass};
 const SITE: &str =
     r#"{"classes":[{"copies":1,"name":"raw","vo":"atlas"}],"defaultPolicy":"std","directories":[{"class":"raw","path":"/atlas"}],"drives":[{"library":"L1","name":"d1"}],"endpoint":"https://tape.example.org/api/v1","libraries":["L1"],"limits":{"archiveBytes":100,"archiveFiles":1,"batchFiles":10,"buffer":1000,"file":1000,"history":3,"lifetime":60,"retrieveBytes":100,"retrieveFiles":1,"tries":3},"policies":[{"archiveMinAge":10,"archivePriority":1,"name":"std","retrieveMinAge":10,"retrievePriority":1}],"pools":[{"name":"p1","vo":"atlas"}],"repackPolicy":"std","routes":[{"class":"raw","copy":1,"pool":"p1"}],"sitename":"T1","tapes":[{"capacity":1000,"library":"L1","pool":"p1","state":"ACTIVE","vid":"V1"}],"version":1,"vos":[{"name":"atlas","readDrives":1,"writeDrives":1}]}"#;
 
-// A medium that tells no records.
+// The medium of the site's one tape, which tells no records.
 #[derive(Drop)]
 struct Blank;
 
 impl Told for Blank {
     ghost use Rattle.std.specs.Prelude.{None};
 
-    ghost told = { λ m. None };
+    ghost told = { λ m. record { label = 0; records = None } };
 }
 
 fn site_of(alloc: Global) -> Option<ValidSite> {
@@ -43,6 +43,7 @@ fn media_of(alloc: Global) -> Option<Vec<Blank>>
 }
 
 // An archive of a site with one tape and some drive.
+#[tactic(auto, using(crate::proofs::OneTape::one_medium))]
 fn archive_of(alloc: Global, keys: RandomState) -> Option<Archive<Blank>>
     ensures { IfSome result (λ archive. 0 < length archive.site.drives.items) }
 {

@@ -1,28 +1,27 @@
 -- The state at the start.
 use Rattle.std.proofs.Common.{◌≡◌, ◌∙◌, ℕ, zero, suc, ◌<◌, [], ◌∷◌, List, refl, sym, ap, subst, arith, length}
-use Rattle.std.specs.Prelude.{Option, Some, IfSome, IfOk, Result, Ok, false, map, slice_get}
+use Rattle.std.specs.Prelude.{Option, Some, IfOk, Result, Ok, false, map, slice_get}
 use Rattle.std.proofs.lemmas.List.{length-map}
-use Rattle.blob.specs.Records.{TapeRecords}
+use Rattle.blob.specs.Records.{MediumView, medium_at}
 use Rattle.cta_site.specs.declared.site.Site.{Site}
-use Rattle.cta_model.specs.Media.{IsTrueMedium}
+use Rattle.cta_model.specs.Media.{IsMediumOf}
 use Rattle.entry_steps.specs.Shelf.{IsPlaceOf}
 use Rattle.entry_steps.proofs.ShelfLaw.{shelf_starts_full}
-use Rattle.media_shelf.specs.Places.{medium_at}
 use Rattle.kept_parts.specs.declared.parts.KeptParts.{KeptParts}
 use Rattle.kept_parts.specs.Kept.{ArePartsKept}
 use Rattle.kept_state.specs.Kept.{AreFirstMedia, IsState}
 
 -- each place of a full shelf has the medium of that place
-first_place : {M : Type 0} (told : M → Option TapeRecords) (media : List M) (v t : ℕ) → v < length media → ((m : M) → slice_get media v ≡ Some m → IfSome (told m) (IsTrueMedium [] t)) → IsPlaceOf [] t false (medium_at (map (λ m. Some (told m)) media) v)
+first_place : {M : Type 0} (told : M → MediumView) (media : List M) (v t : ℕ) → v < length media → ((m : M) → slice_get media v ≡ Some m → IsMediumOf [] t (told m)) → IsPlaceOf [] t false (medium_at (map (λ m. Some (told m)) media) v)
 first_place told [] v t low each = absurd (omega (arith, low))
 first_place told (m ∷ media) zero t low each = each m refl
 first_place told (m ∷ media) (suc v) t low each = first_place told media v t (omega (arith, low)) each
 
-pub state_begins : {M : Type 0} (told : M → Option TapeRecords) (site : Site) (p : KeptParts) (media : List M) (shelf : List (Option (Option TapeRecords))) → AreFirstMedia told site media → ArePartsKept site [] p → shelf ≡ map (λ m. Some (told m)) media → IsState site [] p shelf
+pub state_begins : {M : Type 0} (told : M → MediumView) (site : Site) (p : KeptParts) (media : List M) (shelf : List (Option MediumView)) → AreFirstMedia told site media → ArePartsKept site [] p → shelf ≡ map (λ m. Some (told m)) media → IsState site [] p shelf
 state_begins told site p media shelf first kept is = record {
   legal = tt;
   parts = kept;
-  shelf = shelf_starts_full site (medium_at shelf) (λ v low. subst (λ (s : List (Option (Option TapeRecords))). IsPlaceOf [] v false (medium_at s v)) (sym is) (first_place told media v v (subst (λ (n : ℕ). v < n) (sym first.count) low) (first.each v)));
+  shelf = shelf_starts_full site (medium_at shelf) (λ v low. subst (λ (s : List (Option MediumView)). IsPlaceOf [] v false (medium_at s v)) (sym is) (first_place told media v v (subst (λ (n : ℕ). v < n) (sym first.count) low) (first.each v)));
   places = ap length is ∙ length-map media (λ m. Some (told m)) ∙ first.count;
 }
 

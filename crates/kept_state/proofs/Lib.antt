@@ -11,6 +11,5 @@ mod ToRead
 pub mod Recalled
 mod NamedTwice
 mod KnownJobs
-mod Shelved
 mod FailedTold
 mod TapesTold

@@ -1,27 +1,25 @@
 -- The state behind one more entry.
 use Rattle.std.proofs.Common.{◌≡◌, ◌∙◌, ◌≤◌, ℕ, ◌∷◌, List, false, true, refl, sym, ap, subst}
 use Rattle.std.specs.Prelude.{Option, Some, None, Result, Ok, Err, IfOk, OnErr}
-use Rattle.blob.specs.Records.{TapeRecords}
+use Rattle.blob.specs.Records.{MediumView, medium_at}
 use Rattle.cta_site.specs.declared.site.Site.{Site}
 use Rattle.cta_model.specs.declared.asks.Ask.{Ask}
 use Rattle.cta_model.specs.declared.answers.Answer.{Answer}
 use Rattle.cta_model.specs.History.{History}
 use Rattle.cta_model.specs.Answers.{answer_of, is_accepted}
 use Rattle.cta_model.specs.Bare.{bare_answer}
-use Rattle.cta_model.specs.Kept.{Kept, kept_after}
 use Rattle.cta_model.specs.Legal.{IsFit, IsMount, IsMountOf, IsNext, greatest_moment, new_entry}
 use Rattle.cta_model.specs.declared.asks.Direction.TheVariants as direction
 use Rattle.cta_model.specs.declared.states.Mount.{Mount}
 use Rattle.cta_model.proofs.Appends.{is_next}
 use Rattle.cta_laws.specs.Changes.{may_change_mounts}
 use Rattle.entry_steps.proofs.ShelfLaw.{shelf_stays}
-use Rattle.media_shelf.specs.Places.{medium_at}
 use Rattle.kept_parts.specs.declared.parts.KeptParts.{KeptParts}
 use Rattle.kept_parts.specs.Kept.{ArePartsKept}
 use Rattle.kept_state.specs.Kept.{IsState}
 
 -- the entry of an ask that opens and ends no mount
-pub state_moves : (site : Site) (h : History) (t : ℕ) (k : Ask) (a : Answer) (p p' : KeptParts) (media : List (Option (Option TapeRecords))) → IsState site h p media → t ≤ greatest_moment → IsFit site h k
+pub state_moves : (site : Site) (h : History) (t : ℕ) (k : Ask) (a : Answer) (p p' : KeptParts) (media : List (Option MediumView)) → IsState site h p media → t ≤ greatest_moment → IsFit site h k
     → a ≡ answer_of site h t k → is_accepted (answer_of site h t k) ≡ true → may_change_mounts k ≡ false → ArePartsKept site (new_entry h t k a ∷ h) p' → IsState site (new_entry h t k a ∷ h) p' media
 state_moves site h t k a p p' media is low fit answered accepted quiet kept =
     let next : IsNext site h (new_entry h t k a) = is_next site h t k a is.legal low fit answered (ap is_accepted answered ∙ accepted) in
@@ -32,17 +30,10 @@ state_moves site h t k a p p' media is low fit answered accepted quiet kept =
       places = is.places;
     }
 
-abbrev pub with_history : Site → History → Kept
-with_history site h = record { site = site; history = h }
-
--- what is kept after an accepted ask
-pub kept_with : (k : Kept) (t : ℕ) (asked : Ask) (a : Answer) → is_accepted a ≡ true → kept_after k t asked a ≡ record k { history = new_entry k.history t asked a ∷ k.history }
-kept_with k t asked a accepted = rw accepted refl
-
 -- ---- what a call leaves, whether memory was found or not
 
 -- the state behind the call of an ask that opens and ends no mount
-pub state_after : {E : Type 0} (site : Site) (h : History) (t : ℕ) (k : Ask) (r : Result Answer E) (h' : History) (p p' : KeptParts) (media : List (Option (Option TapeRecords))) → IsState site h p media → t ≤ greatest_moment → IsFit site h k
+pub state_after : {E : Type 0} (site : Site) (h : History) (t : ℕ) (k : Ask) (r : Result Answer E) (h' : History) (p p' : KeptParts) (media : List (Option MediumView)) → IsState site h p media → t ≤ greatest_moment → IsFit site h k
     → may_change_mounts k ≡ false → is_accepted (answer_of site h t k) ≡ true → IfOk r (λ a. bare_answer a ≡ answer_of site h t k) → IfOk r (λ a. h' ≡ new_entry h t k (bare_answer a) ∷ h) → IfOk r (λ _. ArePartsKept site h' p')
     → OnErr r (h' ≡ h) → OnErr r (ArePartsKept site h p') → IsState site h' p' media
 state_after site h t k (Ok a) h' p p' media is low fit quiet accepted answered entry kept same still =
@@ -50,18 +41,6 @@ state_after site h t k (Ok a) h' p p' media is low fit quiet accepted answered e
     (state_moves site h t k (bare_answer a) p p' media is low fit answered accepted quiet (subst (λ (g : History). ArePartsKept site g p') entry kept))
 state_after site h t k (Err e) h' p p' media is low fit quiet accepted answered entry kept same still =
     subst (λ (g : History). IsState site g p' media) (sym same) (record { legal = is.legal; parts = still; shelf = is.shelf; places = is.places })
-
--- what is kept then, where the call answered
-pub kept_ok : {E : Type 0} (site : Site) (h : History) (t : ℕ) (k : Ask) (r : Result Answer E) (h' : History) → is_accepted (answer_of site h t k) ≡ true → IfOk r (λ a. bare_answer a ≡ answer_of site h t k)
-    → IfOk r (λ a. h' ≡ new_entry h t k (bare_answer a) ∷ h) → IfOk r (λ a. ◌≡◌ {A = Kept} (record { site = site; history = h' }) (kept_after (record { site = site; history = h }) t k (bare_answer a)))
-kept_ok site h t k (Ok a) h' accepted answered entry =
-    ap (λ (g : History). with_history site g) entry ∙ sym (kept_with (with_history site h) t k (bare_answer a) (ap is_accepted answered ∙ accepted))
-kept_ok site h t k (Err e) h' accepted answered entry = tt
-
--- and where it did not
-pub kept_err : {A E : Type 0} (site : Site) (h h' : History) (r : Result A E) → OnErr r (h' ≡ h) → OnErr r (◌≡◌ {A = Kept} (record { site = site; history = h' }) (record { site = site; history = h }))
-kept_err site h h' (Ok a) same = tt
-kept_err site h h' (Err e) same = ap (λ (g : History). with_history site g) same
 
 -- a mount that writes is one
 pub writes_is : (o : Option Mount) → IsMountOf direction.Archive o → IsMount o

@@ -4,7 +4,7 @@ use Rattle.std.specs.Prelude.{Option, None, if◌then◌else◌}
 use Rattle.cta_site.specs.declared.site.Site.{Site}
 use Rattle.cta_model.specs.History.{History, has_number}
 use Rattle.blob.specs.declared.sum.Sum256.{Sum256}
-use Rattle.blob.specs.Records.{TapeRecords}
+use Rattle.blob.specs.Records.{MediumView}
 use Rattle.part_values.specs.declared.space.HeldPin.{HeldPin}
 use Rattle.part_values.specs.declared.space.Resident.{Resident}
 use Rattle.part_values.specs.Held.{ArePinsHeld, Held, HeldAgree, evict, evictable_in, evicted_for, free_in, numbers, pins_in, pins_without, prefix_of, without}
@@ -51,7 +51,7 @@ same_content : (old new : Option Sum256) (f : ℕ) (gone : List ℕ) → gone �
 same_content old new f gone none is = is ∙ ap (λ (xs : List ℕ). if has_number f xs then None else old) none
 
 -- the state with a buffer that reached a moment
-pub state_reached : (site : Site) (h : History) (p : KeptParts) (media : List (Option (Option TapeRecords))) (t : ℕ) (b : Stored) → IsState site h p media → HeldAgree b.held.value (evict p.buffer.held.value t 0)
+pub state_reached : (site : Site) (h : History) (p : KeptParts) (media : List (Option MediumView)) (t : ℕ) (b : Stored) → IsState site h p media → HeldAgree b.held.value (evict p.buffer.held.value t 0)
     → ((f : ℕ) → content_in b.contents f ≡ (if has_number f (evicted_for p.buffer.held.value t 0) then None else content_in p.buffer.contents f)) → IsState site h (record p { buffer = b }) media
 state_reached site h p media t b is agrees contents =
     let agree : HeldAgree b.held.value p.buffer.held.value = reached_agrees p.buffer.held.value b.held.value t agrees in

@@ -21,7 +21,7 @@ impl<M: Told + Drop> KeptState<M> {
         requires at { at ≤ greatest_moment }
         requires accepted { is_accepted (answer_of self.old.site self.old.history at (ask.DriveUp who drive)) ≡ true }
         ensures answer { IfOk result (λ a. bare_answer a ≡ answer_of self.old.site self.old.history at (ask.DriveUp who drive)) }
-        ensures kept { IfOk result (λ a. self.new ≡ kept_after self.old at (ask.DriveUp who drive) (bare_answer a)) }
+        ensures kept { IfOk result (λ a. self.new ≡ kept_after self.old at (ask.DriveUp who drive) (bare_answer a) None) }
         ensures back { IfErr result (λ e. e.1 ≡ who) }
         ensures same { OnErr result (self.new ≡ self.old) }
     {
@@ -47,7 +47,7 @@ impl<M: Told + Drop> KeptState<M> {
         requires at { at ≤ greatest_moment }
         requires accepted { is_accepted (answer_of self.old.site self.old.history at (ask.DriveDown who drive)) ≡ true }
         ensures answer { IfOk result (λ a. bare_answer a ≡ answer_of self.old.site self.old.history at (ask.DriveDown who drive)) }
-        ensures kept { IfOk result (λ a. self.new ≡ kept_after self.old at (ask.DriveDown who drive) (bare_answer a)) }
+        ensures kept { IfOk result (λ a. self.new ≡ kept_after self.old at (ask.DriveDown who drive) (bare_answer a) None) }
         ensures back { IfErr result (λ e. e.1 ≡ who) }
         ensures same { OnErr result (self.new ≡ self.old) }
     {
@@ -73,7 +73,7 @@ impl<M: Told + Drop> KeptState<M> {
         requires at { at ≤ greatest_moment }
         requires accepted { is_accepted (answer_of self.old.site self.old.history at (ask.Retry who (rows paths.items))) ≡ true }
         ensures answer { IfOk result (λ a. bare_answer a ≡ answer_of self.old.site self.old.history at (ask.Retry who (rows paths.items))) }
-        ensures kept { IfOk result (λ a. self.new ≡ kept_after self.old at (ask.Retry who (rows paths.items)) (bare_answer a)) }
+        ensures kept { IfOk result (λ a. self.new ≡ kept_after self.old at (ask.Retry who (rows paths.items)) (bare_answer a) None) }
         ensures back { IfErr result (λ e. (e.1 ≡ who) × (e.2 ≡ paths)) }
         ensures same { OnErr result (self.new ≡ self.old) }
     {

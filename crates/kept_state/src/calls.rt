@@ -28,7 +28,7 @@ impl<M: Told + Drop> KeptState<M> {
         requires at { at ≤ greatest_moment }
         requires accepted { is_accepted (answer_of self.old.site self.old.history at (ask.Put who path (sum_of blob.value))) ≡ true }
         ensures answer { IfOk result (λ a. bare_answer a ≡ answer_of self.old.site self.old.history at (ask.Put who path (sum_of blob.value))) }
-        ensures kept { IfOk result (λ a. self.new ≡ kept_after self.old at (ask.Put who path (sum_of blob.value)) (bare_answer a)) }
+        ensures kept { IfOk result (λ a. self.new ≡ kept_after self.old at (ask.Put who path (sum_of blob.value)) (bare_answer a) None) }
         ensures back { IfErr result (λ e. e.1 ≡ record { who = who; path = path; blob = blob }) }
         ensures same { OnErr result (self.new ≡ self.old) }
     {
@@ -51,7 +51,7 @@ impl<M: Told + Drop> KeptState<M> {
         requires at { at ≤ greatest_moment }
         requires accepted { is_accepted (answer_of self.old.site self.old.history at (ask.Delete who path)) ≡ true }
         ensures answer { IfOk result (λ a. bare_answer a ≡ answer_of self.old.site self.old.history at (ask.Delete who path)) }
-        ensures kept { IfOk result (λ a. self.new ≡ kept_after self.old at (ask.Delete who path) (bare_answer a)) }
+        ensures kept { IfOk result (λ a. self.new ≡ kept_after self.old at (ask.Delete who path) (bare_answer a) None) }
         ensures back { IfErr result (λ e. (e.1 ≡ who) × (e.2 ≡ path)) }
         ensures same { OnErr result (self.new ≡ self.old) }
     {

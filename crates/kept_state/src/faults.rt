@@ -68,7 +68,7 @@ impl<M: Told + Drop> KeptState<M> {
         requires named { 0 < length charged.items + length returned.items }
         requires accepted { is_accepted (answer_of self.old.site self.old.history at (ask.Failed mount fault (rows charged.items) (rows returned.items))) ≡ true }
         ensures answer { IfOk result (λ a. bare_answer a ≡ answer_of self.old.site self.old.history at (ask.Failed mount fault (rows charged.items) (rows returned.items))) }
-        ensures kept { IfOk result (λ a. self.new ≡ kept_after self.old at (ask.Failed mount fault (rows charged.items) (rows returned.items)) (bare_answer a)) }
+        ensures kept { IfOk result (λ a. self.new ≡ kept_after self.old at (ask.Failed mount fault (rows charged.items) (rows returned.items)) (bare_answer a) None) }
         ensures back { IfErr result (λ e. (e.1 ≡ charged) × (e.2 ≡ returned)) }
         ensures same { OnErr result (self.new ≡ self.old) }
     {

@@ -73,7 +73,7 @@ impl<M: Told + Drop> KeptState<M> {
         requires accepted { is_accepted (answer_of self.old.site self.old.history at (ask.Claim mount)) ≡ true }
         requires batch { (x : Mount) → mount_of self.old.history mount ≡ Some x → items.items ≡ batch_of self.old.site self.old.history (moment_of self.old.history at) x }
         ensures answer { IfOk result (λ a. bare_answer a ≡ answer_of self.old.site self.old.history at (ask.Claim mount)) }
-        ensures kept { IfOk result (λ a. self.new ≡ kept_after self.old at (ask.Claim mount) (bare_answer a)) }
+        ensures kept { IfOk result (λ a. self.new ≡ kept_after self.old at (ask.Claim mount) (bare_answer a) None) }
         ensures back { IfErr result (λ e. e.1 ≡ items) }
         ensures same { OnErr result (self.new ≡ self.old) }
     {
@@ -103,7 +103,7 @@ impl<M: Told + Drop> KeptState<M> {
         requires accepted { is_accepted (answer_of self.old.site self.old.history at (ask.Recalled mount job)) ≡ true }
         requires content { sum_of blob.value ≡ files.sum_of self.old.history job.file }
         ensures answer { IfOk result (λ a. bare_answer a ≡ answer_of self.old.site self.old.history at (ask.Recalled mount job)) }
-        ensures kept { IfOk result (λ a. self.new ≡ kept_after self.old at (ask.Recalled mount job) (bare_answer a)) }
+        ensures kept { IfOk result (λ a. self.new ≡ kept_after self.old at (ask.Recalled mount job) (bare_answer a) None) }
         ensures back { IfErr result (λ e. e.1 ≡ blob) }
         ensures same { OnErr result (self.new ≡ self.old) }
     {

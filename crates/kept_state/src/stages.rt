@@ -26,7 +26,7 @@ impl<M: Told + Drop> KeptState<M> {
         requires at { at ≤ greatest_moment }
         requires accepted { is_accepted (answer_of self.old.site self.old.history at (ask.Stage who (rows files.items))) ≡ true }
         ensures answer { IfOk result (λ a. bare_answer a ≡ answer_of self.old.site self.old.history at (ask.Stage who (rows files.items))) }
-        ensures kept { IfOk result (λ a. self.new ≡ kept_after self.old at (ask.Stage who (rows files.items)) (bare_answer a)) }
+        ensures kept { IfOk result (λ a. self.new ≡ kept_after self.old at (ask.Stage who (rows files.items)) (bare_answer a) None) }
         ensures back { IfErr result (λ e. (e.1 ≡ who) × (e.2 ≡ files)) }
         ensures same { OnErr result (self.new ≡ self.old) }
     {
@@ -54,7 +54,7 @@ impl<M: Told + Drop> KeptState<M> {
         requires at { at ≤ greatest_moment }
         requires accepted { is_accepted (answer_of self.old.site self.old.history at (ask.Cancel who id (rows paths.items))) ≡ true }
         ensures answer { IfOk result (λ a. bare_answer a ≡ answer_of self.old.site self.old.history at (ask.Cancel who id (rows paths.items))) }
-        ensures kept { IfOk result (λ a. self.new ≡ kept_after self.old at (ask.Cancel who id (rows paths.items)) (bare_answer a)) }
+        ensures kept { IfOk result (λ a. self.new ≡ kept_after self.old at (ask.Cancel who id (rows paths.items)) (bare_answer a) None) }
         ensures back { IfErr result (λ e. (e.1 ≡ who) × (e.2 ≡ paths)) }
         ensures same { OnErr result (self.new ≡ self.old) }
     {
@@ -76,7 +76,7 @@ impl<M: Told + Drop> KeptState<M> {
         requires at { at ≤ greatest_moment }
         requires accepted { is_accepted (answer_of self.old.site self.old.history at (ask.DropStage who id)) ≡ true }
         ensures answer { IfOk result (λ a. bare_answer a ≡ answer_of self.old.site self.old.history at (ask.DropStage who id)) }
-        ensures kept { IfOk result (λ a. self.new ≡ kept_after self.old at (ask.DropStage who id) (bare_answer a)) }
+        ensures kept { IfOk result (λ a. self.new ≡ kept_after self.old at (ask.DropStage who id) (bare_answer a) None) }
         ensures back { IfErr result (λ e. e.1 ≡ who) }
         ensures same { OnErr result (self.new ≡ self.old) }
     {
@@ -104,7 +104,7 @@ impl<M: Told + Drop> KeptState<M> {
         requires at { at ≤ greatest_moment }
         requires accepted { is_accepted (answer_of self.old.site self.old.history at (ask.Release who id (rows paths.items))) ≡ true }
         ensures answer { IfOk result (λ a. bare_answer a ≡ answer_of self.old.site self.old.history at (ask.Release who id (rows paths.items))) }
-        ensures kept { IfOk result (λ a. self.new ≡ kept_after self.old at (ask.Release who id (rows paths.items)) (bare_answer a)) }
+        ensures kept { IfOk result (λ a. self.new ≡ kept_after self.old at (ask.Release who id (rows paths.items)) (bare_answer a) None) }
         ensures back { IfErr result (λ e. (e.1 ≡ who) × (e.2 ≡ paths)) }
         ensures same { OnErr result (self.new ≡ self.old) }
     {

@@ -1,8 +1,8 @@
 // The state.
-ghost use Rattle.std.specs.Prelude.{◌≡◌, [], IfOk, Ok};
+ghost use Rattle.std.specs.Prelude.{◌≡◌, [], IfOk, Ok, Some, map};
 ghost use Rattle.cta_model.specs.History.{moment_of, weight_of};
 ghost use Rattle.cta_model.specs.Legal.{IsLegal};
-ghost use Rattle.kept_state.specs.Kept.{AreFirstMedia, TapesHaveMedia};
+ghost use Rattle.kept_state.specs.Kept.{AreFirstMedia, AreShelved};
 
 use blob::Told;
 use cta_site::{NoMemory, ValidSite};
@@ -14,9 +14,9 @@ use std::alloc::Global;
 use std::hash::RandomState;
 use std::marker::Model;
 
-/// The state of an archive. Contracts see its site and its history, newest entry first. The history is legal; the parts stand for it, the
-/// buffer has a content of each resident file and of no other, and each tape that is not mounted has a medium on the shelf, which is true
-/// where it tells its records. This project's own.
+/// The state of an archive. Contracts see its site, its history, newest entry first, and the media on its shelf. The history is legal; the
+/// parts stand for it, the buffer has a content of each resident file and of no other, and each tape that is not mounted has its medium on
+/// the shelf, which is true where it tells its records. This project's own.
 #[derive(Drop)]
 pub struct KeptState<M: Told + Drop> {
     pub(crate) alloc: Global,
@@ -32,7 +32,7 @@ impl<M: Told + Drop> Model for KeptState<M> {
 
     ghost Value = { Kept };
 
-    ghost view = { λ s. record { site = s.site; history = s.history.value } };
+    ghost view = { λ s. record { site = s.site; history = s.history.value; shelf = s.shelf } };
 
     ghost invariant = { λ s. IsState s.site s.history.value s.parts s.shelf };
 }
@@ -50,7 +50,7 @@ fn all_of<A: Drop, B: Drop, C: Drop>(
 }
 
 impl<M: Told + Drop> KeptState<M> {
-    /// The state of an archive with no history, with a medium for each tape of the site. Paths are hashed with these keys. After
+    /// The state of an archive with no history, with the medium of each tape of the site. Paths are hashed with these keys. After
     /// NoMemory the site and the media are dropped. Its cost is the size of the site, and that of `KeyedSite::new`.
     pub fn new(
         alloc: Global,
@@ -59,7 +59,7 @@ impl<M: Told + Drop> KeptState<M> {
         keys: RandomState,
     ) -> Result<KeptState<M>, NoMemory>
         requires { AreFirstMedia M.told site media.items }
-        ensures { IfOk result (λ state. state ≡ record { site = site; history = [] }) }
+        ensures { IfOk result (λ state. state ≡ record { site = site; history = []; shelf = map (λ m. Some (M.told m)) media.items }) }
     {
         let parts = KeptParts::new(alloc, &site, keys);
         let shelf = MediaShelf::new(alloc, media);
@@ -88,12 +88,11 @@ impl<M: Told + Drop> KeptState<M> {
         let _history = &self.history;
     }
 
-    /// That each tape of the site that no open mount has has a medium, which is true for the history where it tells its records: a law,
-    /// which does nothing when it runs.
+    /// That each tape of the site that no open mount has has its medium on the shelf, which is true for the history where it tells its
+    /// records: a law, which does nothing when it runs.
     pub fn keeps_media(&self)
-        ensures { TapesHaveMedia M.told self.now.site self.now.history }
+        ensures { AreShelved self.now.site self.now.history self.now.shelf }
     {
         let _history = &self.history;
-        self.shelf.keeps_media();
     }
 }

@@ -77,7 +77,7 @@ impl<M: Told + Drop> KeptState<M> {
         requires at { at ≤ greatest_moment }
         requires accepted { is_accepted (answer_of self.old.site self.old.history at (ask.TapeState who tape to)) ≡ true }
         ensures answer { IfOk result (λ a. bare_answer a ≡ answer_of self.old.site self.old.history at (ask.TapeState who tape to)) }
-        ensures kept { IfOk result (λ a. self.new ≡ kept_after self.old at (ask.TapeState who tape to) (bare_answer a)) }
+        ensures kept { IfOk result (λ a. self.new ≡ kept_after self.old at (ask.TapeState who tape to) (bare_answer a) None) }
         ensures back { IfErr result (λ e. e.1 ≡ who) }
         ensures same { OnErr result (self.new ≡ self.old) }
     {
@@ -100,7 +100,7 @@ impl<M: Told + Drop> KeptState<M> {
         requires at { at ≤ greatest_moment }
         requires accepted { is_accepted (answer_of self.old.site self.old.history at (ask.Reclaim who tape)) ≡ true }
         ensures answer { IfOk result (λ a. bare_answer a ≡ answer_of self.old.site self.old.history at (ask.Reclaim who tape)) }
-        ensures kept { IfOk result (λ a. self.new ≡ kept_after self.old at (ask.Reclaim who tape) (bare_answer a)) }
+        ensures kept { IfOk result (λ a. self.new ≡ kept_after self.old at (ask.Reclaim who tape) (bare_answer a) None) }
         ensures back { IfErr result (λ e. e.1 ≡ who) }
         ensures same { OnErr result (self.new ≡ self.old) }
     {
@@ -121,7 +121,7 @@ impl<M: Told + Drop> KeptState<M> {
         requires at { at ≤ greatest_moment }
         requires accepted { is_accepted (answer_of self.old.site self.old.history at (ask.Repack who tape)) ≡ true }
         ensures answer { IfOk result (λ a. bare_answer a ≡ answer_of self.old.site self.old.history at (ask.Repack who tape)) }
-        ensures kept { IfOk result (λ a. self.new ≡ kept_after self.old at (ask.Repack who tape) (bare_answer a)) }
+        ensures kept { IfOk result (λ a. self.new ≡ kept_after self.old at (ask.Repack who tape) (bare_answer a) None) }
         ensures back { IfErr result (λ e. e.1 ≡ who) }
         ensures same { OnErr result (self.new ≡ self.old) }
     {

@@ -3,7 +3,7 @@ use Rattle.std.proofs.Common.{◌≡◌, ℕ, ◌+◌, ◌≤◌, zero, suc, Lis
 use Rattle.std.specs.Prelude.{Option, Some, None, MatchOption, Result, Ok, Err, is_ok, not, ◌&&◌, ◌||◌, IfOk}
 use Rattle.std.specs.List.{list_any}
 use Rattle.blob.specs.declared.sum.Sum256.{Sum256}
-use Rattle.blob.specs.Records.{TapeRecords}
+use Rattle.blob.specs.Records.{MediumView, TapeRecords}
 use Rattle.cta_site.specs.declared.site.CallKind.{CallKind}
 use Rattle.cta_site.specs.declared.site.CallKind.TheVariants as kind
 use Rattle.media.specs.declared.counts.Counts.{Counts}
@@ -37,21 +37,30 @@ pub same_tape : (xs ys : List Sum256) (s r : ℕ) → xs ≡ ys → s ≡ r → 
 unfolding tape_at
 same_tape xs ys s r e f = same_at xs ys s r e f
 
+-- a medium that tells these records
+abbrev telling : ℕ → TapeRecords → MediumView
+telling v t = record { label = v; records = Some t }
+
+-- a medium that tells records, whichever way they are written
+pub same_medium : (v : ℕ) (xs ys : List Sum256) (s r : ℕ) → xs ≡ ys → s ≡ r
+    → ◌≡◌ {A = MediumView} (record { label = v; records = Some (record { records = xs; safe = s }) }) (record { label = v; records = Some (record { records = ys; safe = r }) })
+same_medium v xs ys s r e f = ap (telling v) (same_tape xs ys s r e f)
+
 -- all of the records are a front of them
 pub uncut : (t : TapeRecords) → t ≡ cut (length t.records + t.safe) t
 uncut t = same_tape t.records (take (length t.records + t.safe) t.records) t.safe (min (length t.records + t.safe) t.safe) (sym (take_all (length t.records + t.safe) t.records (omega arith))) (omega arith)
 
-pub uncut_flushed : (t : TapeRecords) (r : Result (Unit {0}) DeviceErr) → is_ok r ≡ false → HasFlushed (Some t) (Some t) (error_of r)
-uncut_flushed t (Ok x) e = absurd (cc)
-uncut_flushed t (Err e) f = ((λ (u : TapeRecords). length u.records + u.safe), (λ u. omega arith), ap Some (uncut t))
+pub uncut_flushed : (v : ℕ) (t : TapeRecords) (r : Result (Unit {0}) DeviceErr) → is_ok r ≡ false → HasFlushed (telling v t) (telling v t) (error_of r)
+uncut_flushed v t (Ok x) e = absurd (cc)
+uncut_flushed v t (Err e) f = ((λ (u : TapeRecords). length u.records + u.safe), (λ u. omega arith), ap (telling v) (uncut t))
 
-pub uncut_written : (s : ℕ) (sum : Sum256) (t : TapeRecords) (e : Option DeviceErr) → s ≤ length t.records + 1 → e ≡ fault_if true → HasWritten s sum (Some t) (Some t) e
-uncut_written s sum t None le f = absurd (cc)
-uncut_written s sum t (Some err.Fault) le f = ((λ (u : TapeRecords). s + (length u.records + u.safe)), (λ u. omega arith), ap Some (more t))
+pub uncut_written : (v s : ℕ) (sum : Sum256) (t : TapeRecords) (e : Option DeviceErr) → s ≤ length t.records + 1 → e ≡ fault_if true → HasWritten s sum (telling v t) (telling v t) e
+uncut_written v s sum t None le f = absurd (cc)
+uncut_written v s sum t (Some err.Fault) le f = ((λ (u : TapeRecords). s + (length u.records + u.safe)), (λ u. omega arith), ap (telling v) (more t))
   where
     more : (t : TapeRecords) → t ≡ cut (s + (length t.records + t.safe)) t
     more t = same_tape t.records (take (s + (length t.records + t.safe)) t.records) t.safe (min (s + (length t.records + t.safe)) t.safe) (sym (take_all (s + (length t.records + t.safe)) t.records (omega arith))) (omega arith)
-uncut_written s sum t (Some err.NoMemory) le f = absurd (cc)
+uncut_written v s sum t (Some err.NoMemory) le f = absurd (cc)
 
 pub option_more : {A : Type 0} (P Q : A → Type 0) (o : Option A) → ((x : A) → P x → Q x) → MatchOption o (Unit {0}) P → MatchOption o (Unit {0}) Q
 option_more P Q None f m = tt

@@ -7,17 +7,18 @@ use Rattle.media.specs.declared.counts.Counts.{Counts}
 use Rattle.media.specs.declared.planned.Planned.{Planned}
 use Rattle.media.specs.declared.drive.DeviceErr.{DeviceErr}
 use Rattle.media.specs.declared.drive.DeviceErr.TheVariants as err
-use Rattle.media.specs.Counted.{count_of, counted, Rose}
+use Rattle.media.specs.Counted.{count_of, counted, one_more, Rose}
 
 -- what a drive is to do, and how many calls of each kind were made so far
 pub record Plan : Type 0 where
   pub entries : List Planned
   pub made : Counts
 
--- whether it is loaded, whether it reads safe records as they were written, how often each call failed, and its plan where it tells one
+-- whether it is loaded, whether it reads safe records as they were written, how many calls were made, how often each failed, and its plan where it tells one
 pub record DriveView : Type 0 where
   pub loaded : Bool
   pub honest : Bool
+  pub calls : ℕ
   pub faults : Counts
   pub plan : Option Plan
 
@@ -69,16 +70,21 @@ IsAsPlanned k None p = fails_at k p.entries p.made ≡ false
 IsAsPlanned k (Some err.Fault) p = fails_at k p.entries p.made ≡ true
 IsAsPlanned k (Some err.NoMemory) p = ⊤
 
--- what a call leaves of the drive: whether it is loaded; no other honesty; no count falls, and that of the call rose where it failed; one more call
--- in the plan, which said whether it fails; and nothing else where it wanted memory
+-- a drive that was called once more, to no effect
+abbrev pub called_in_vain : DriveView → DriveView
+called_in_vain d = record d { calls = one_more d.calls }
+
+-- what a call leaves of the drive: whether it is loaded; no other honesty; one more call; no count of faults falls, and that of the call rose where it failed; one more
+-- call in the plan, which said whether it fails; and nothing but the one call more where it wanted memory
 pub record HasAnswered (k : CallKind) (old new : DriveView) (e : Option DeviceErr) : Type 0 where
   pub loaded : new.loaded ≡ loaded_after k e old.loaded
   pub honest : new.honest ≡ old.honest
+  pub calls : new.calls ≡ one_more old.calls
   pub kept : (j : CallKind) → count_of j old.faults ≤ count_of j new.faults
   pub cause : e ≡ Some err.Fault → Rose (count_of k old.faults) (count_of k new.faults)
   pub plan : new.plan ≡ option_map (plan_after k e) old.plan
   pub planned : IfSome old.plan (IsAsPlanned k e)
-  pub memory : e ≡ Some err.NoMemory → new ≡ old
+  pub memory : e ≡ Some err.NoMemory → new ≡ called_in_vain old
 
 -- the answer is no want of memory
 abbrev pub WantsNoMemory : Option DeviceErr → Type 0

@@ -2,7 +2,7 @@
 use Rattle.std.specs.Prelude.{ℕ, ◌+◌, ◌-◌, ◌%◌, ◌≡◌, ◌≤◌, List, [], ◌∷◌, length, Option, IfSome, Bool, true, false, slice_get, Result, IfOk}
 use Rattle.blob.specs.declared.sum.Sum256.{Sum256}
 use Rattle.blob.specs.Sums.{sum_of}
-use Rattle.blob.specs.Records.{TapeRecords}
+use Rattle.blob.specs.Records.{MediumView, TapeRecords}
 use Rattle.cta_site.specs.declared.site.CallKind.TheVariants as kind
 use Rattle.media.specs.declared.drive.DeviceErr.{DeviceErr}
 use Rattle.media.specs.Drives.{DriveView, Plan, alters_at}
@@ -18,8 +18,8 @@ pub record HasSafe (s : ℕ) (t : TapeRecords) : Type 0 where
   pub there : s ≤ length t.records
 
 -- a read needs an fSeq with a safe record, where records are told
-abbrev pub MayRead : ℕ → Option TapeRecords → Type 0
-MayRead s told = IfSome told (HasSafe s)
+abbrev pub MayRead : ℕ → MediumView → Type 0
+MayRead s m = IfSome m.records (HasSafe s)
 
 -- bytes with the first one raised by 1 modulo 256; no bytes stay none
 abbrev pub altered : List ℕ → List ℕ
@@ -37,5 +37,5 @@ pub record IsReadBy (d : DriveView) (sum : Sum256) (bytes : List ℕ) : Type 0 w
   pub planned : IfSome d.plan (λ (p : Plan). IsReadOf (alters_at kind.Read p.entries p.made) sum bytes)
 
 -- what a read of the fSeq s gives, where records are told
-abbrev pub HasRead : DriveView → Option TapeRecords → ℕ → Result (List ℕ) DeviceErr → Type 0
-HasRead d told s r = IfSome told (λ t. IfSome (record_at t s) (λ sum. IfOk r (IsReadBy d sum)))
+abbrev pub HasRead : DriveView → MediumView → ℕ → Result (List ℕ) DeviceErr → Type 0
+HasRead d m s r = IfSome m.records (λ t. IfSome (record_at t s) (λ sum. IfOk r (IsReadBy d sum)))

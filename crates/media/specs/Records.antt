@@ -1,7 +1,7 @@
--- What calls leave of a medium's records.
-use Rattle.std.specs.Prelude.{ℕ, ◌+◌, ◌-◌, ◌≡◌, ◌≤◌, min, [], ◌∷◌, ◌++◌, length, take, Option, Some, None, IfSome, option_map}
+-- What calls leave of a medium: its records alone may change, and never its label.
+use Rattle.std.specs.Prelude.{ℕ, ◌+◌, ◌-◌, ◌≡◌, ◌≤◌, min, [], ◌∷◌, ◌++◌, length, take, Option, Some, None, IfSome}
 use Rattle.blob.specs.declared.sum.Sum256.{Sum256}
-use Rattle.blob.specs.Records.{TapeRecords}
+use Rattle.blob.specs.Records.{MediumView, TapeRecords, with_records}
 use Rattle.media.specs.declared.drive.DeviceErr.{DeviceErr}
 use Rattle.media.specs.declared.drive.DeviceErr.TheVariants as err
 
@@ -26,20 +26,20 @@ abbrev pub unloaded : TapeRecords → TapeRecords
 unloaded t = cut t.safe t
 
 -- the records are cut somewhere, and at least so many of the first are kept
-abbrev pub IsCut : (TapeRecords → ℕ) → Option TapeRecords → Option TapeRecords → Type 0
-IsCut least old new = (n : TapeRecords → ℕ) × ((t : TapeRecords) → least t ≤ n t) × (new ≡ option_map (λ t. cut (n t) t) old)
+abbrev pub IsCut : (TapeRecords → ℕ) → MediumView → MediumView → Type 0
+IsCut least old new = (n : TapeRecords → ℕ) × ((t : TapeRecords) → least t ≤ n t) × (new ≡ with_records (λ t. cut (n t) t) old)
 
 -- what a write leaves: after a fault the records below s, and perhaps some behind them
-abbrev pub HasWritten : ℕ → Sum256 → Option TapeRecords → Option TapeRecords → Option DeviceErr → Type 0
-HasWritten s sum old new None = new ≡ option_map (written s sum) old
+abbrev pub HasWritten : ℕ → Sum256 → MediumView → MediumView → Option DeviceErr → Type 0
+HasWritten s sum old new None = new ≡ with_records (written s sum) old
 HasWritten s sum old new (Some err.Fault) = IsCut (λ _. s - 1) old new
 HasWritten s sum old new (Some err.NoMemory) = new ≡ old
 
 -- what a flush leaves: after a fault the safe records, and perhaps some behind them
-abbrev pub HasFlushed : Option TapeRecords → Option TapeRecords → Option DeviceErr → Type 0
-HasFlushed old new None = new ≡ option_map flushed old
+abbrev pub HasFlushed : MediumView → MediumView → Option DeviceErr → Type 0
+HasFlushed old new None = new ≡ with_records flushed old
 HasFlushed old new (Some e) = IsCut (λ t. t.safe) old new
 
 -- a write needs an fSeq from 1 to one more than the records, where they are told
-abbrev pub MayWrite : ℕ → Option TapeRecords → Type 0
-MayWrite s told = (1 ≤ s) × IfSome told (λ t. s ≤ length t.records + 1)
+abbrev pub MayWrite : ℕ → MediumView → Type 0
+MayWrite s m = (1 ≤ s) × IfSome m.records (λ t. s ≤ length t.records + 1)

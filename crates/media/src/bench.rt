@@ -14,16 +14,16 @@ pub trait Bench<D: TapeDrive> {
     // Whether its drives tell their plans, and its media their records.
     ghost tells: { Self → Bool };
 
-    /// A drive that is not loaded. Where drives tell, its plan is what the site plans for it, and no call was made.
+    /// A drive that is not loaded and was not called. Where drives tell, its plan is what the site plans for it.
     fn drive(&mut self, site: &ValidSite, drive: u32) -> Result<D, NoMemory>
         requires { drive < length site.now.drives.items }
         ensures made { IfOk result (λ d. IsNewDrive (tells self.old) site.now drive (D.seen d)) }
         ensures tells { tells self.new ≡ tells self.old };
 
-    /// A medium for a tape. Where media tell, it has no records.
+    /// The medium of a tape, with the tape's number on its label. Where media tell, it has no records.
     fn medium(&mut self, site: &ValidSite, tape: u32) -> Result<D::Medium, NoMemory>
         requires { tape < length site.now.tapes.items }
-        ensures made { IfOk result (λ m. IsNewMedium (tells self.old) (D.Medium.told m)) }
+        ensures made { IfOk result (λ m. IsNewMedium (tells self.old) tape (D.Medium.told m)) }
         ensures tells { tells self.new ≡ tells self.old };
 }
 
@@ -50,8 +50,8 @@ impl Bench<MemDrive> for MemBench {
         Ok(MemDrive::new(self.alloc, plan))
     }
 
-    fn medium(&mut self, _site: &ValidSite, _tape: u32) -> Result<MemMedium, NoMemory> {
-        Ok(MemMedium::new(self.alloc))
+    fn medium(&mut self, _site: &ValidSite, tape: u32) -> Result<MemMedium, NoMemory> {
+        Ok(MemMedium::new(self.alloc, tape))
     }
 }
 

@@ -1,6 +1,7 @@
 // A tape drive, as contracts see it.
-ghost use Rattle.std.specs.Prelude.{◌≡◌, false, option_map, true};
+ghost use Rattle.std.specs.Prelude.{◌≡◌, false, true};
 ghost use Rattle.std.specs.Arc.{arc_value};
+ghost use Rattle.blob.specs.Records.{with_records};
 ghost use Rattle.blob.specs.Sums.{sum_of};
 ghost use Rattle.cta_site.specs.declared.site.CallKind.TheVariants as kind;
 ghost use Rattle.media.specs.Drives.{DriveView, HasAnswered, WantsNoMemory, error_of};
@@ -11,7 +12,7 @@ use blob::{Blob, Told};
 use std::sync::Arc;
 
 /// Why a call of a drive gives nothing: at `Fault` the drive's count of faults of that kind of call rose in the call, or
-/// stands at its last value, and at `NoMemory` the drive and the medium are as before.
+/// stands at its last value, and at `NoMemory` the drive, but for one call more, and the medium are as before.
 #[derive(Clone, Copy, Debug, PartialEq, Eq)]
 pub enum DeviceErr {
     Fault,
@@ -20,12 +21,12 @@ pub enum DeviceErr {
 
 /// A tape drive, which reads and writes the records of one medium at a time. Records count from fSeq 1, and a record that
 /// was written is pending until a flush makes it safe. What is said of records is said of a medium that tells them, and no
-/// call changes whether a drive or a medium tells, what a drive plans, or whether it is honest: whether a read of a safe
-/// record gives what was written. A count of faults never falls. This project's own.
+/// call changes whether a drive or a medium tells, a medium's label, what a drive plans, or whether it is honest: whether a read
+/// of a safe record gives what was written. Each call is counted, also one that wants memory, and a count of faults never falls. This project's own.
 pub trait TapeDrive {
     type Medium: Told + Send + Drop;
 
-    // Whether the drive is loaded, whether it is honest, its counts of faults, and its plan where it tells one.
+    // Whether the drive is loaded, whether it is honest, how many calls were made, its counts of faults, and its plan where it tells one.
     ghost seen: { Self → DriveView };
 
     /// Loads the medium into a drive that is not loaded, which it then is. After a Fault it is not. The records stay.
@@ -69,6 +70,6 @@ pub trait TapeDrive {
     fn unload(&mut self, medium: &mut Self::Medium) -> Result<(), DeviceErr>
         requires { (seen self.old).loaded ≡ true }
         ensures drive { HasAnswered kind.Unload (seen self.old) (seen self.new) (error_of result) }
-        ensures records { Self.Medium.told medium.new ≡ option_map unloaded (Self.Medium.told medium.old) }
+        ensures records { Self.Medium.told medium.new ≡ with_records unloaded (Self.Medium.told medium.old) }
         ensures memory { WantsNoMemory (error_of result) };
 }

@@ -1,7 +1,7 @@
 // A drive in memory.
 ghost use Rattle.std.specs.Prelude.{◌≡◌};
 ghost use Rattle.media.specs.Counted.{count_of, counted};
-ghost use Rattle.media.specs.Drives.{HasAnswered, alters_at, error_of, fails_at, fault_if, loaded_after};
+ghost use Rattle.media.specs.Drives.{HasAnswered, alters_at, called_in_vain, error_of, fails_at, fault_if, loaded_after};
 
 use crate::counts::Counts;
 use crate::drive::{DeviceErr, TapeDrive};
@@ -19,6 +19,7 @@ use std::sync::Arc;
 pub struct MemDrive {
     alloc: Global,
     loaded: bool,
+    calls: u64,
     plan: Vec<Planned>,
     made: Counts,
     faults: Counts,
@@ -34,6 +35,7 @@ impl MemDrive {
         MemDrive {
             alloc,
             loaded: false,
+            calls: 0,
             plan,
             made: Counts::new(),
             faults: Counts::new(),
@@ -65,12 +67,22 @@ impl MemDrive {
         next.of(call)
     }
 
+    // A call that finds no memory.
+    fn wanting(&mut self) -> DeviceErr
+        ensures error { result ≡ DeviceErr.NoMemory }
+        ensures drive { mem_drive self.new ≡ called_in_vain (mem_drive self.old) }
+    {
+        self.calls = self.calls.saturating_add(1);
+        DeviceErr::NoMemory
+    }
+
     // Makes a call, which fails where that is planned.
     fn call(&mut self, call: CallKind) -> Result<(), DeviceErr>
         ensures answered { HasAnswered call (mem_drive self.old) (mem_drive self.new) (error_of result) }
         ensures fails { error_of result ≡ fault_if (fails_at call self.old.plan.items self.old.made) }
     {
         let fails = self.fails(call);
+        self.calls = self.calls.saturating_add(1);
         self.made.raise(call);
         self.loaded = loaded_after(call, fails, self.loaded);
         if fails {
@@ -114,7 +126,7 @@ impl TapeDrive for MemDrive {
         }
         match medium.write(fseq, blob) {
             Ok(()) => self.call(CallKind::Write),
-            Err(_) => Err(DeviceErr::NoMemory),
+            Err(_) => Err(self.wanting()),
         }
     }
 
@@ -129,7 +141,7 @@ impl TapeDrive for MemDrive {
     fn read(&mut self, medium: &mut MemMedium, fseq: u32) -> Result<Blob, DeviceErr> {
         let alter = self.alters(CallKind::Read);
         let Ok(blob) = medium.read(self.alloc, fseq, alter) else {
-            return Err(DeviceErr::NoMemory);
+            return Err(self.wanting());
         };
         self.call(CallKind::Read)?;
         Ok(blob)

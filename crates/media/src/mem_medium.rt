@@ -7,31 +7,33 @@ use blob::{Blob, NoMemory, Told};
 use std::alloc::Global;
 use std::sync::Arc;
 
-/// A medium in memory, which tells its records. It shares the contents that were written to it with whoever has them.
+/// A medium in memory, labelled with the number of its tape, which tells its records. It shares the contents that were written to it with whoever has them.
 #[derive(Drop)]
 pub struct MemMedium {
+    pub(crate) tape: u32,
     pub(crate) records: Vec<Arc<Blob>>,
     pub(crate) safe: usize,
     ghost within: { safe ≤ vec_len records },
 }
 
 impl Told for MemMedium {
-    ghost use Rattle.std.specs.Prelude.{Some};
-    ghost use Rattle.media.specs.Memory.{mem_tape};
+    ghost use Rattle.media.specs.Memory.{mem_medium};
 
-    ghost told = { λ m. Some (mem_tape m) };
+    ghost told = { λ m. mem_medium m };
 }
 
 impl MemMedium {
-    ghost use Rattle.media.specs.Memory.{mem_tape};
+    ghost use Rattle.blob.specs.Records.{with_records};
+    ghost use Rattle.media.specs.Memory.{mem_medium, mem_tape, new_medium};
     ghost use Rattle.media.specs.Reads.{HasSafe, IsReadOf, record_at};
-    ghost use Rattle.media.specs.Records.{flushed, no_records, unloaded, written};
+    ghost use Rattle.media.specs.Records.{flushed, unloaded, written};
 
-    /// A medium with no records. It takes no memory and constant time.
-    pub fn new(alloc: Global) -> MemMedium
-        ensures { mem_tape result ≡ no_records }
+    /// The medium of the tape of this number, with no records. It takes no memory and constant time.
+    pub fn new(alloc: Global, tape: u32) -> MemMedium
+        ensures { mem_medium result ≡ new_medium tape }
     {
         MemMedium {
+            tape,
             records: Vec::new(alloc),
             safe: 0,
         }
@@ -41,7 +43,7 @@ impl MemMedium {
     pub(crate) fn write(&mut self, fseq: u32, blob: &Arc<Blob>) -> Result<(), NoMemory>
         requires from { 1 ≤ fseq }
         requires to { fseq ≤ vec_len self.old.records + 1 }
-        ensures { MatchResult result (λ _. mem_tape self.new ≡ written fseq (sum_of (arc_value blob.now)) (mem_tape self.old)) (λ _. mem_tape self.new ≡ mem_tape self.old) }
+        ensures { MatchResult result (λ _. mem_medium self.new ≡ with_records (written fseq (sum_of (arc_value blob.now))) (mem_medium self.old)) (λ _. mem_medium self.new ≡ mem_medium self.old) }
     {
         let Ok(kept) = Arc::try_clone(blob) else {
             return Err(NoMemory);
@@ -61,14 +63,14 @@ impl MemMedium {
 
     // Makes all records safe.
     pub(crate) fn flush(&mut self)
-        ensures { mem_tape self.new ≡ flushed (mem_tape self.old) }
+        ensures { mem_medium self.new ≡ with_records flushed (mem_medium self.old) }
     {
         self.safe = self.records.len();
     }
 
     // Drops the pending records.
     pub(crate) fn unload(&mut self)
-        ensures { mem_tape self.new ≡ unloaded (mem_tape self.old) }
+        ensures { mem_medium self.new ≡ with_records unloaded (mem_medium self.old) }
     {
         self.records.truncate(self.safe);
     }

@@ -1,14 +1,14 @@
 // The shelf.
-ghost use Rattle.std.specs.Prelude.{ℕ, ◌≡◌, ◌<◌, ◌==◌, Some, None, if◌then◌else◌, length, map, option_map, IfOk};
-ghost use Rattle.media_shelf.specs.Places.{AreThere, medium_at};
+ghost use Rattle.std.specs.Prelude.{◌≡◌, ◌<◌, Some, None, length, map, option_map, slice_set, IfOk};
+ghost use Rattle.blob.specs.Records.{medium_at};
 
 use blob::Told;
 use cta_site::NoMemory;
 use std::alloc::Global;
 use std::marker::Model;
 
-/// A place for the medium of each tape, by the tape's number, empty while a drive has it. Contracts see what the medium at each
-/// place tells of its records. This project's own.
+/// A place for the medium of each tape, by the tape's number, empty while a drive has it. Contracts see the medium at each place,
+/// with its label, and its records where it tells them. This project's own.
 #[derive(Drop)]
 pub struct MediaShelf<M: Told> {
     places: Vec<Option<M>>,
@@ -16,9 +16,9 @@ pub struct MediaShelf<M: Told> {
 
 impl<M: Told> Model for MediaShelf<M> {
     ghost use Rattle.std.specs.Prelude.{List, Option, map, option_map};
-    ghost use Rattle.blob.specs.Records.{TapeRecords};
+    ghost use Rattle.blob.specs.Records.{MediumView};
 
-    ghost Value = { List (Option (Option TapeRecords)) };
+    ghost Value = { List (Option MediumView) };
 
     ghost view = { λ s. map (option_map M.told) s.places.items };
 }
@@ -26,7 +26,7 @@ impl<M: Told> Model for MediaShelf<M> {
 // What was at a place, which is empty from then on.
 fn take_out<M: Told>(places: &mut [Option<M>], at: usize) -> Option<M>
     ensures told { option_map M.told result ≡ medium_at (map (option_map M.told) places.old) at }
-    ensures places { (t : ℕ) → medium_at (map (option_map M.told) places.new) t ≡ (if t == at then None else medium_at (map (option_map M.told) places.old) t) }
+    ensures places { map (option_map M.told) places.new ≡ slice_set (map (option_map M.told) places.old) at None }
 {
     if at < places.len() {
         return places[at].take();
@@ -37,7 +37,7 @@ fn take_out<M: Told>(places: &mut [Option<M>], at: usize) -> Option<M>
 // Puts a medium at a place.
 fn put_in<M: Told + Drop>(places: &mut [Option<M>], at: usize, medium: M)
     requires { at < length places.old }
-    ensures { (t : ℕ) → medium_at (map (option_map M.told) places.new) t ≡ (if t == at then Some (M.told medium) else medium_at (map (option_map M.told) places.old) t) }
+    ensures { map (option_map M.told) places.new ≡ slice_set (map (option_map M.told) places.old) at (Some (M.told medium)) }
 {
     places[at] = Some(medium);
 }
@@ -67,8 +67,7 @@ impl<M: Told> MediaShelf<M> {
     /// constant time.
     pub fn take(&mut self, tape: u32) -> Option<M>
         ensures told { option_map M.told result ≡ medium_at self.old tape }
-        ensures places { (t : ℕ) → medium_at self.new t ≡ (if t == tape then None else medium_at self.old t) }
-        ensures many { length self.new ≡ length self.old }
+        ensures places { self.new ≡ slice_set self.old tape None }
     {
         take_out(self.places.as_mut_slice(), tape as usize)
     }
@@ -78,16 +77,8 @@ impl<M: Told> MediaShelf<M> {
     where
         M: Drop,
         requires { tape < length self.old }
-        ensures places { (t : ℕ) → medium_at self.new t ≡ (if t == tape then Some (M.told medium) else medium_at self.old t) }
-        ensures many { length self.new ≡ length self.old }
+        ensures { self.new ≡ slice_set self.old tape (Some (M.told medium)) }
     {
         put_in(self.places.as_mut_slice(), tape as usize, medium);
-    }
-
-    /// That each place that isn't empty has a medium, which tells what the place says: a law, which does nothing when it runs.
-    pub fn keeps_media(&self)
-        ensures { AreThere M.told self.now }
-    {
-        let _places = &self.places;
     }
 }

@@ -2,7 +2,7 @@
 use Rattle.std.proofs.Common.{◌≡◌, ℕ, ◌≤◌, Bool, true, false, inl, inr, List, [], ◌∷◌, ◌++◌, refl, sym, ap, ◌∙◌, subst}
 use Rattle.std.specs.Prelude.{Option, Some, None}
 use Rattle.std.proofs.lemmas.Option.{none-some, same_Some}
-use Rattle.blob.specs.Records.{TapeRecords}
+use Rattle.blob.specs.Records.{MediumView}
 use Rattle.cta_site.specs.Listed.{Listed, rows}
 use Rattle.cta_model.specs.declared.answers.Answer.{Answer}
 use Rattle.cta_model.specs.declared.answers.Answer.TheVariants as answer
@@ -17,7 +17,7 @@ use Rattle.cta_model.specs.declared.hands.Hand.TheVariants as hand
 use Rattle.cta_model.specs.declared.states.Mount.{Mount}
 use Rattle.cta_model.specs.Answers.{answer_of, is_accepted}
 use Rattle.cta_model.specs.Bare.{bare_answer, bare_ask}
-use Rattle.cta_model.specs.Hands.{BatchHand, HandBack}
+use Rattle.cta_model.specs.Hands.{BatchHand, HandBack, TakesOut, medium_in}
 use Rattle.cta_model.specs.History.{History}
 use Rattle.cta_model.specs.Kept.{Kept, history_after, kept_after}
 use Rattle.cta_model.specs.Legal.{IsFit, IsLegal, greatest_moment}
@@ -31,15 +31,16 @@ use Rattle.drive_session.specs.declared.states.State.{State}
 use Rattle.drive_session.specs.declared.states.State.TheVariants as state
 use Rattle.drive_session.specs.Answers.{batch_by, claimed_state, is_asking, is_memory, line_after, next_state, state_after}
 use Rattle.drive_session.specs.Fits.{FitsAsk, FitsIn, FitsOpen, FitsResolved, FitsState, IsMountAt}
-use Rattle.drive_session.specs.Steps.{is_loaded_in}
+use Rattle.drive_session.specs.Steps.{is_loaded_in, medium_held, medium_left}
 use Rattle.drive_session.specs.Table.{AnswersLeadByPhase, GoesWith, HeldMount, IsBatchHand, Phase, Free, Held, Leaving, Reading, Ready, Writing, claim_phase, line_by, next_phase, phase_after, phase_of}
 use Rattle.session_laws.specs.Laws.{AnsweredSessionFits, AsksAreFit, AsksAreKnown}
 use Rattle.replay.specs.Desk.{HasNoMount, IsAbout, IsAskedOf, IsFree, IsIdleFor}
+use Rattle.replay.specs.Steps.{medium_behind}
 use Rattle.replay.proofs.Freed.{freed}
 
 -- ---- the room in lists
 
-open_bare : {M : Type 0} (told : M → Option TapeRecords) (h : History) (d : ℕ) (s : State M) (w : Asked) (k : Ask) (q : Hand M) → FitsAsk told h d s w k q → FitsAsk told h d s w (bare_ask k) q
+open_bare : {M : Type 0} (told : M → MediumView) (h : History) (d : ℕ) (s : State M) (w : Asked) (k : Ask) (q : Hand M) → FitsAsk told h d s w k q → FitsAsk told h d s w (bare_ask k) q
 open_bare told h d s w (ask.Put who path sum) q f = f
 open_bare told h d s w (ask.Delete who path) q f = f
 open_bare told h d s w (ask.Stage who files) q f = f
@@ -60,7 +61,7 @@ open_bare told h d s w (ask.Repack who v) q f = f
 open_bare told h d s w (ask.Retry who paths) q f = f
 
 -- a state behind an answer fits where the one behind the answer with no room to spare does
-next_bare : {M : Type 0} (told : M → Option TapeRecords) (h : History) (d : ℕ) (a : Answer) (k : Hand M) → FitsIn told h d (next_state (bare_answer a) k) → FitsIn told h d (next_state a k)
+next_bare : {M : Type 0} (told : M → MediumView) (h : History) (d : ℕ) (a : Answer) (k : Hand M) → FitsIn told h d (next_state (bare_answer a) k) → FitsIn told h d (next_state a k)
 next_bare told h d (answer.Stored evicted) k f = f
 next_bare told h d answer.Done k f = f
 next_bare told h d (answer.Staged id) k f = f
@@ -83,7 +84,7 @@ next_bare told h d (answer.TapeSeen info) k f = f
 next_bare told h d (answer.QueuesSeen infos) k f = f
 next_bare told h d (answer.Refused refused) k f = f
 
-batch_bare : {M : Type 0} (told : M → Option TapeRecords) (h : History) (d : ℕ) (way : Direction) (is : List Item) (x : Mounted M) (items items' : Listed Item) (k : Hand M) → items.items ≡ items'.items
+batch_bare : {M : Type 0} (told : M → MediumView) (h : History) (d : ℕ) (way : Direction) (is : List Item) (x : Mounted M) (items items' : Listed Item) (k : Hand M) → items.items ≡ items'.items
     → FitsIn told h d (batch_by way is x items' k) → FitsIn told h d (batch_by way is x items k)
 batch_bare told h d way [] x items items' k e f = f
 batch_bare told h d direction.Archive (i ∷ is) x items items' hand.Nothing e f = f
@@ -92,7 +93,7 @@ batch_bare told h d direction.Archive (i ∷ is) x items items' (hand.Blobs blob
 batch_bare told h d direction.Archive (i ∷ is) x items items' (hand.Medium y) e f = f
 batch_bare told h d direction.Retrieve (i ∷ is) x items items' k e f = rw e f
 
-claim_bare : {M : Type 0} (told : M → Option TapeRecords) (h : History) (d : ℕ) (x : Mounted M) (a : Answer) (k : Hand M) → FitsIn told h d (claimed_state x (bare_answer a) k) → FitsIn told h d (claimed_state x a k)
+claim_bare : {M : Type 0} (told : M → MediumView) (h : History) (d : ℕ) (x : Mounted M) (a : Answer) (k : Hand M) → FitsIn told h d (claimed_state x (bare_answer a) k) → FitsIn told h d (claimed_state x a k)
 claim_bare told h d x (answer.Stored evicted) k f = f
 claim_bare told h d x answer.Done k f = f
 claim_bare told h d x (answer.Staged id) k f = f
@@ -115,7 +116,7 @@ claim_bare told h d x (answer.TapeSeen info) k f = f
 claim_bare told h d x (answer.QueuesSeen infos) k f = f
 claim_bare told h d x (answer.Refused refused) k f = f
 
-state_bare : {M : Type 0} (told : M → Option TapeRecords) (h : History) (d : ℕ) (w : Asked) (s : State M) (a : Answer) (k : Hand M) → FitsIn told h d (state_after w s (bare_answer a) k) → FitsIn told h d (state_after w s a k)
+state_bare : {M : Type 0} (told : M → MediumView) (h : History) (d : ℕ) (w : Asked) (s : State M) (a : Answer) (k : Hand M) → FitsIn told h d (state_after w s (bare_answer a) k) → FitsIn told h d (state_after w s a k)
 state_bare told h d asked.Next s a k f = next_bare told h d a k f
 state_bare told h d asked.Claim state.Free a k f = f
 state_bare told h d asked.Claim (state.Held x) a k f = f
@@ -340,7 +341,7 @@ claim_loaded x (answer.TapeSeen info) k = refl
 claim_loaded x (answer.QueuesSeen infos) k = refl
 claim_loaded x (answer.Refused refused) k = refl
 
-same_loaded : {M : Type 0} (told : M → Option TapeRecords) (h : History) (d : ℕ) (s : State M) (w : Asked) (k : Ask) (q : Hand M) (a : Answer) (out : Hand M) → FitsAsk told h d s w k q → is_loaded_in (state_after w s a out) ≡ is_loaded_in s
+same_loaded : {M : Type 0} (told : M → MediumView) (h : History) (d : ℕ) (s : State M) (w : Asked) (k : Ask) (q : Hand M) (a : Answer) (out : Hand M) → FitsAsk told h d s w k q → is_loaded_in (state_after w s a out) ≡ is_loaded_in s
 same_loaded told h d s w (ask.Put who path sum) q a out f = absurd f
 same_loaded told h d s w (ask.Delete who path) q a out f = absurd f
 same_loaded told h d s w (ask.Stage who files) q a out f = absurd f
@@ -362,7 +363,7 @@ same_loaded told h d s w (ask.Retry who paths) q a out f = absurd f
 
 -- ---- what goes with an answer
 
-goes_next : {M : Type 0} (told : M → Option TapeRecords) (h later : History) (n : ℕ) (s : State M) (a : Answer) (q out : Hand M) → HandBack told (is_accepted (bare_answer a)) h later (ask.Next n) (bare_answer a) q out → GoesWith asked.Next s a out
+goes_next : {M : Type 0} (told : M → MediumView) (h later : History) (n : ℕ) (s : State M) (a : Answer) (q out : Hand M) → HandBack told (is_accepted (bare_answer a)) h later (ask.Next n) (bare_answer a) q out → GoesWith asked.Next s a out
 goes_next told h later n s (answer.Stored evicted) q out b = tt
 goes_next told h later n s answer.Done q out b = tt
 goes_next told h later n s (answer.Staged id) q out b = tt
@@ -400,7 +401,7 @@ batch_goes (Some y) x direction.Retrieve items (hand.Blobs blobs) e f b = absurd
 batch_goes (Some y) x way items (hand.Blob blob) e f b = absurd b
 batch_goes (Some y) x way items (hand.Medium z) e f b = absurd b
 
-goes_claim : {M : Type 0} (told : M → Option TapeRecords) (h later : History) (m : ℕ) (x : Mounted M) (d : ℕ) (a : Answer) (q out : Hand M) → IsMountAt h d m x.direction x.tape
+goes_claim : {M : Type 0} (told : M → MediumView) (h later : History) (m : ℕ) (x : Mounted M) (d : ℕ) (a : Answer) (q out : Hand M) → IsMountAt h d m x.direction x.tape
     → HandBack told (is_accepted (bare_answer a)) h later (ask.Claim m) (bare_answer a) q out → GoesWith asked.Claim (state.Ready x) a out
 goes_claim told h later m x d (answer.Stored evicted) q out at b = tt
 goes_claim told h later m x d answer.Done q out at b = tt
@@ -424,7 +425,7 @@ goes_claim told h later m x d (answer.TapeSeen info) q out at b = tt
 goes_claim told h later m x d (answer.QueuesSeen infos) q out at b = tt
 goes_claim told h later m x d (answer.Refused refused) q out at b = tt
 
-goes_with : {M : Type 0} (told : M → Option TapeRecords) (h later : History) (d : ℕ) (s : State M) (w : Asked) (k : Ask) (q : Hand M) (a : Answer) (out : Hand M) → FitsAsk told h d s w k q
+goes_with : {M : Type 0} (told : M → MediumView) (h later : History) (d : ℕ) (s : State M) (w : Asked) (k : Ask) (q : Hand M) (a : Answer) (out : Hand M) → FitsAsk told h d s w k q
     → HandBack told (is_accepted (bare_answer a)) h later k (bare_answer a) q out → GoesWith w s a out
 goes_with told h later d s w (ask.Put who path sum) q a out f b = absurd f
 goes_with told h later d s w (ask.Delete who path) q a out f b = absurd f
@@ -447,7 +448,7 @@ goes_with told h later d s w (ask.Retry who paths) q a out f b = absurd f
 
 -- ---- which mount is asked about
 
-resolved_about : {M : Type 0} (told : M → Option TapeRecords) (h : History) (d m : ℕ) (jobs : List Job) (s : State M) → FitsResolved told h d m jobs s → (way : Direction) × ((v : ℕ) × IsMountAt h d m way v)
+resolved_about : {M : Type 0} (told : M → MediumView) (h : History) (d m : ℕ) (jobs : List Job) (s : State M) → FitsResolved told h d m jobs s → (way : Direction) × ((v : ℕ) × IsMountAt h d m way v)
 resolved_about told h d m jobs state.Free f = absurd f
 resolved_about told h d m jobs (state.Held x) f = absurd f
 resolved_about told h d m jobs (state.Ready x) f = absurd f
@@ -456,7 +457,7 @@ resolved_about told h d m jobs (state.Writing x b) f = absurd f
 resolved_about told h d m jobs (state.Reading x items at) f = (x.direction, (x.tape, subst (λ n. IsMountAt h d n x.direction x.tape) (sym f.0) f.1.at.mount))
 resolved_about told h d m jobs (state.Leaving x) f = (x.direction, (x.tape, subst (λ n. IsMountAt h d n x.direction x.tape) (sym f.0) f.2.mount))
 
-ask_about : {M : Type 0} (told : M → Option TapeRecords) (h : History) (d : ℕ) (s : State M) (w : Asked) (k : Ask) (q : Hand M) → FitsAsk told h d s w k q → IsAbout h d k
+ask_about : {M : Type 0} (told : M → MediumView) (h : History) (d : ℕ) (s : State M) (w : Asked) (k : Ask) (q : Hand M) → FitsAsk told h d s w k q → IsAbout h d k
 ask_about told h d s w (ask.Put who path sum) q f = absurd f
 ask_about told h d s w (ask.Delete who path) q f = absurd f
 ask_about told h d s w (ask.Stage who files) q f = absurd f
@@ -478,28 +479,79 @@ ask_about told h d s w (ask.Retry who paths) q f = absurd f
 
 -- ---- an ask that was answered
 
-history_same : (kept : Kept) (t : ℕ) (k : Ask) (a : Answer) → a ≡ answer_of kept.site kept.history t k → (kept_after kept t k a).history ≡ history_after kept.site kept.history t k
-history_same kept t k a e = rw e (by_cases (is_accepted (answer_of kept.site kept.history t k)) refl)
+history_same : (kept : Kept) (t : ℕ) (k : Ask) (a : Answer) (brought : Option MediumView) → a ≡ answer_of kept.site kept.history t k → (kept_after kept t k a brought).history ≡ history_after kept.site kept.history t k
+history_same kept t k a brought e = rw e (by_cases (is_accepted (answer_of kept.site kept.history t k)) refl)
   where
-    by_cases : (b : Bool) → b ≡ is_accepted (answer_of kept.site kept.history t k) → (kept_after kept t k (answer_of kept.site kept.history t k)).history ≡ history_after kept.site kept.history t k
+    by_cases : (b : Bool) → b ≡ is_accepted (answer_of kept.site kept.history t k) → (kept_after kept t k (answer_of kept.site kept.history t k) brought).history ≡ history_after kept.site kept.history t k
     by_cases true e = rw (← e) refl
     by_cases false e = rw (← e) refl
 
+-- what a session brings with its ask is the medium that its device has left: with an End its own, and with a Next none
+brought_left : {M : Type 0} (told : M → MediumView) (h : History) (d t : ℕ) (s : State M) (w : Asked) (k : Ask) (q : Hand M) (kept : Kept) (a : Answer) → FitsAsk told h d s w (bare_ask k) q
+    → kept_after kept t (bare_ask k) a (medium_in told q) ≡ kept_after kept t (bare_ask k) a (medium_left told s (Some (k, q)))
+brought_left told h d t s w (ask.Next n) q kept a f =
+    ap (λ z. kept_after kept t (ask.Next n) a (medium_in told z)) f.hand ∙ sym (ap (λ z. kept_after kept t (ask.Next n) a (medium_left told s (Some (ask.Next n, z)))) f.hand ∙ ap (λ z. kept_after kept t (ask.Next n) a (medium_held told z)) f.state)
+brought_left told h d t s w (ask.End m fault) q kept a f =
+    ap (λ z. kept_after kept t (ask.End m fault) a (medium_in told z)) f.hand ∙ sym (ap (λ z. kept_after kept t (ask.End m fault) a (medium_left told s (Some (ask.End m fault, z)))) f.hand)
+brought_left told h d t s w _ q kept a f = refl
+
+-- the medium behind the answer to a Next: the one that came out, from the place of its tape
+next_medium : {M : Type 0} (told : M → MediumView) (h later : History) (shelf : List (Option MediumView)) (n : ℕ) (a : Answer) (q out : Hand M) → HandBack told (is_accepted (bare_answer a)) h later (ask.Next n) (bare_answer a) q out
+    → TakesOut told shelf (ask.Next n) (bare_answer a) out → medium_held told (next_state a out) ≡ medium_behind shelf None (Some (ask.Next n)) (Some (bare_answer a))
+next_medium told h later shelf n (answer.Mounted m way v) q (hand.Medium y) back takes = sym takes
+next_medium told h later shelf n (answer.Mounted m way v) q hand.Nothing back takes = absurd back
+next_medium told h later shelf n (answer.Mounted m way v) q (hand.Blob b) back takes = absurd back
+next_medium told h later shelf n (answer.Mounted m way v) q (hand.Blobs b) back takes = absurd back
+next_medium told h later shelf n _ q out back takes = refl
+
+-- a mount keeps its medium behind the answer to a Claim
+batch_medium : {M : Type 0} (told : M → MediumView) (way : Direction) (is : List Item) (x : Mounted M) (items : Listed Item) (out : Hand M) → medium_held told (batch_by way is x items out) ≡ Some (told x.medium)
+batch_medium told way [] x items out = refl
+batch_medium told direction.Archive (i ∷ is) x items hand.Nothing = refl
+batch_medium told direction.Archive (i ∷ is) x items (hand.Blob b) = refl
+batch_medium told direction.Archive (i ∷ is) x items (hand.Blobs b) = refl
+batch_medium told direction.Archive (i ∷ is) x items (hand.Medium y) = refl
+batch_medium told direction.Retrieve (i ∷ is) x items out = refl
+
+claim_medium : {M : Type 0} (told : M → MediumView) (x : Mounted M) (a : Answer) (out : Hand M) → medium_held told (claimed_state x a out) ≡ Some (told x.medium)
+claim_medium told x (answer.Batch items evicted) out = batch_medium told x.direction items.items x items out
+claim_medium told x _ out = refl
+
+-- where an answer leaves the medium of a session
+medium_leads : {M : Type 0} (told : M → MediumView) (h later : History) (shelf : List (Option MediumView)) (d : ℕ) (s : State M) (w : Asked) (k : Ask) (q : Hand M) (a : Answer) (out : Hand M) → FitsAsk told h d s w k q
+    → HandBack told (is_accepted (bare_answer a)) h later k (bare_answer a) q out → TakesOut told shelf k (bare_answer a) out
+    → medium_held told (state_after w s a out) ≡ medium_behind shelf (medium_left told s (Some (k, q))) (Some k) (Some (bare_answer a))
+medium_leads told h later shelf d s w (ask.Next n) q a out f back takes =
+    ap (λ z. medium_held told (state_after z s a out)) f.asked ∙ next_medium told h later shelf n a q out back takes
+    ∙ ap (λ z. medium_behind shelf (medium_held told z) (Some (ask.Next n)) (Some (bare_answer a))) (sym f.state)
+medium_leads told h later shelf d s w (ask.Claim m) q a out f back takes =
+    ap (λ z. medium_held told (state_after z s a out)) f.asked ∙ ap (λ z. medium_held told (state_after asked.Claim z a out)) f.state ∙ claim_medium told f.mounted a out ∙ ap (medium_held told) (sym f.state)
+medium_leads told h later shelf d s w (ask.Flushed m items) q a out f back takes = ap (λ z. medium_held told (state_after z s a out)) f.asked
+medium_leads told h later shelf d s w (ask.Recalled m job) q a out f back takes = ap (λ z. medium_held told (state_after z s a out)) f.asked
+medium_leads told h later shelf d s w (ask.Failed m fault charged returned) q a out f back takes = ap (λ z. medium_held told (state_after z s a out)) f.asked
+medium_leads told h later shelf d s w (ask.End m fault) q a out f back takes = ap (λ z. medium_held told (state_after z s a out)) f.asked ∙ ap (medium_held told) f.state
+medium_leads told h later shelf d s w _ q a out f back takes = absurd f
+
+-- the lists of an ask have nothing to do with its medium
+left_bare : {M : Type 0} (told : M → MediumView) (s : State M) (k : Ask) (q : Hand M) → medium_left told s (Some (bare_ask k, q)) ≡ medium_left told s (Some (k, q))
+left_bare told s (ask.Flushed m items) q = refl
+left_bare told s _ q = refl
+
 -- what a session asks is fit, with no room to spare too
-pub asks_fit : {M : Type 0} (told : M → Option TapeRecords) → AsksAreFit told → (kept : Kept) (m : Memo M) (k : Ask) (q : Hand M) → FitsOpen told kept.site kept.history m.number m.state m.asked k q → IsFit kept.site kept.history (bare_ask k)
+pub asks_fit : {M : Type 0} (told : M → MediumView) → AsksAreFit told → (kept : Kept) (m : Memo M) (k : Ask) (q : Hand M) → FitsOpen told kept.site kept.history m.number m.state m.asked k q → IsFit kept.site kept.history (bare_ask k)
 asks_fit told fits kept m k q asking =
     (fits kept.site kept.history m.number m.state m.asked (bare_ask k) q (record { known = asking.known; asked = open_bare told kept.history m.number m.state m.asked k q asking.asked })).0
 
-module _ {M : Type 0} (told : M → Option TapeRecords) (fits : AsksAreFit told) (knows : AsksAreKnown told) (leads : AnsweredSessionFits told) (by_phase : AnswersLeadByPhase M) where
+module _ {M : Type 0} (told : M → MediumView) (fits : AsksAreFit told) (knows : AsksAreKnown told) (leads : AnsweredSessionFits told) (by_phase : AnswersLeadByPhase M) where
   pub asked_of : (kept now : Kept) (m m' : Memo M) (t : ℕ) (k : Ask) (q out : Hand M) (a : Answer) (l : StepLine) → IsLegal kept.site kept.history → t ≤ greatest_moment
       → FitsOpen told kept.site kept.history m.number m.state m.asked k q → IsIdleFor kept.history m.number (bare_ask k) → bare_answer a ≡ answer_of kept.site kept.history t (bare_ask k)
-      → now ≡ kept_after kept t (bare_ask k) (bare_answer a) → now.site ≡ kept.site → HandBack told (is_accepted (bare_answer a)) kept.history now.history (bare_ask k) (bare_answer a) q out
+      → now ≡ kept_after kept t (bare_ask k) (bare_answer a) (medium_in told q) → TakesOut told kept.shelf (bare_ask k) (bare_answer a) out → now.site ≡ kept.site → HandBack told (is_accepted (bare_answer a)) kept.history now.history (bare_ask k) (bare_answer a) q out
       → l ≡ line_after m.asked m.state a out → m' ≡ record m { state = state_after m.asked m.state a out; asked = asked.Nothing l } → m.kept ≡ None → is_memory l ≡ false
-      → IsAskedOf told kept now m m' t (bare_ask k) l
-  asked_of kept now m m' t k q out a l legal low asking idle answered keeps site back line memo none memory =
+      → IsAskedOf told kept now m m' t (bare_ask k) (medium_left told m.state (Some (k, q))) l
+  asked_of kept now m m' t k q out a l legal low asking idle answered keeps takes site back line memo none memory =
       let asks : FitsAsk told kept.history m.number m.state m.asked (bare_ask k) q = open_bare told kept.history m.number m.state m.asked k q asking.asked in
       let asking' : FitsOpen told kept.site kept.history m.number m.state m.asked (bare_ask k) q = record { known = asking.known; asked = asks } in
-      let grown : now.history ≡ history_after kept.site kept.history t (bare_ask k) = ap (λ (n : Kept). n.history) keeps ∙ history_same kept t (bare_ask k) (bare_answer a) answered in
+      let grown : now.history ≡ history_after kept.site kept.history t (bare_ask k) = ap (λ (n : Kept). n.history) keeps ∙ history_same kept t (bare_ask k) (bare_answer a) (medium_in told q) answered in
       let back' = subst (λ x. HandBack told (is_accepted x) kept.history (history_after kept.site kept.history t (bare_ask k)) (bare_ask k) x q out) answered
       (subst (λ h. HandBack told (is_accepted (bare_answer a)) kept.history h (bare_ask k) (bare_answer a) q out) grown back) in
       let led = leads kept.site kept.history t m.number m.state m.asked (bare_ask k) q out legal low asking' back' in
@@ -512,7 +564,10 @@ module _ {M : Type 0} (told : M → Option TapeRecords) (fits : AsksAreFit told)
       record {
         fit = (fits kept.site kept.history m.number m.state m.asked (bare_ask k) q asking').0;
         known = knows kept.site kept.history t m.number m.state m.asked (bare_ask k) q asking';
-        keeps = keeps ∙ ap (kept_after kept t (bare_ask k)) answered;
+        keeps = keeps ∙ brought_left told kept.history m.number t m.state m.asked k q kept (bare_answer a) asks ∙ ap (λ (x : Answer). kept_after kept t (bare_ask k) x (medium_left told m.state (Some (k, q)))) answered;
+        medium = ap (medium_held told) state_is ∙ medium_leads told kept.history now.history kept.shelf m.number m.state m.asked (bare_ask k) q a out asks back takes
+            ∙ ap (λ (l : Option MediumView). medium_behind kept.shelf l (Some (bare_ask k)) (Some (bare_answer a))) (left_bare told m.state k q)
+            ∙ ap (λ (x : Answer). medium_behind kept.shelf (medium_left told m.state (Some (k, q))) (Some (bare_ask k)) (Some x)) answered;
         number = ap (λ (x : Memo M). x.number) memo;
         kept = ap (λ (x : Memo M). x.kept) memo ∙ none;
         rest = ap (λ (x : Memo M). is_asking x.asked) memo;

@@ -1,23 +1,18 @@
 -- Drives, sessions and media, as a bench makes them.
 use Rattle.std.proofs.Common.{◌≡◌, ℕ, zero, suc, ◌+◌, ◌<◌, ◌⊎◌, inl, inr, Bool, true, false, List, [], ◌∷◌, ◌++◌, length, refl, sym, ap, ◌∙◌, subst, arith, length-append}
-use Rattle.std.specs.Prelude.{Option, Some, None, IfSome, map, slice_get}
+use Rattle.std.specs.Prelude.{Option, Some, Result, Ok, Err, IfOk, map, slice_get}
 use Rattle.std.proofs.lemmas.Option.{none-some, same_Some}
-use Rattle.blob.specs.Records.{TapeRecords}
+use Rattle.blob.specs.Records.{MediumView}
 use Rattle.cta_site.specs.declared.site.Site.{Site}
-use Rattle.cta_model.specs.Media.{IsTrueMedium}
 use Rattle.cta_model.specs.Kept.{Kept}
-use Rattle.archive.specs.Kept.{AreFirstMedia, TapesHaveMedia}
 use Rattle.media.specs.Drives.{DriveView}
 use Rattle.media.specs.Made.{IsNewDrive, IsNewMedium}
-use Rattle.media.specs.Records.{no_records}
 use Rattle.drive_session.specs.declared.session.Memo.{Memo}
 use Rattle.drive_session.specs.declared.states.State.TheVariants as state
-use Rattle.drive_session.specs.Table.{Free}
 use Rattle.replay.specs.Desk.{AreFree, AreManned, Begins, HasNoMount, IsManned, desk_of, drive_states, free_memo}
-use Rattle.replay.specs.Outcome.{AreNewDrives}
-use Rattle.replay.specs.Output.{fresh}
-use Rattle.replay.specs.Promises.{AllTapesHaveMedia}
-use Rattle.replay.specs.Steps.{DriveState}
+use Rattle.replay.specs.Outcome.{AreNewDrives, AreNewMedia}
+use Rattle.replay.specs.SiteReading.{IsOpened, fresh}
+use Rattle.replay.specs.Steps.{DriveState, free_drive}
 use Rattle.replay.proofs.Stepping.{length-map}
 
 -- ---- lists by number
@@ -82,50 +77,52 @@ free_sessions count ms n = record { count_is = n.count_is; each = n.each }
 
 -- ---- media
 
-no_records_true : (v : ℕ) → IsTrueMedium [] v no_records
-no_records_true v = record {
-  within = omega arith;
-  enough = omega arith;
-  named = λ f c p on is. absurd (none-some p is);
+pub new_media : {M : Type 0} (tells : Bool) (site : Site) (told : M → MediumView) (ms : List M)
+    → Numbered (λ v m. IsNewMedium tells v (told m)) (length site.tapes.items) ms → AreNewMedia tells site (map told ms)
+new_media tells site told ms n = record {
+  count = length-map told ms ∙ n.count_is;
+  each = λ v m is.
+      let x = got_map told ms v m is in
+      subst (IsNewMedium tells v) x.1.1 (n.each v x.0 x.1.0);
 }
 
-new_medium_true : (tells : Bool) (v : ℕ) (told : Option TapeRecords) → IsNewMedium tells told → IfSome told (IsTrueMedium [] v)
-new_medium_true tells v None x = tt
-new_medium_true tells v (Some t) x = subst (IsTrueMedium [] v) (sym x.empty) (no_records_true v)
+-- the shelf of an archive that was opened with media
+pub one_shelf : {M : Type 0} (told : M → MediumView) (ms : List M) → map (λ m. Some (told m)) ms ≡ map Some (map told ms)
+one_shelf told [] = refl
+one_shelf told (m ∷ ms) = ap (λ rest. Some (told m) ∷ rest) (one_shelf told ms)
 
-pub first_media : {M : Type 0} (tells : Bool) (site : Site) (told : M → Option TapeRecords) (ms : List M)
-    → Numbered (λ v m. IsNewMedium tells (told m)) (length site.tapes.items) ms → AreFirstMedia told site ms
-first_media tells site told ms n = record { count = n.count_is; each = λ v m is. new_medium_true tells v (told m) (n.each v m is) }
+-- an archive with this shelf that has kept nothing yet
+abbrev opened_with : Site → List (Option MediumView) → Kept
+opened_with site shelf = record { site = site; history = []; shelf = shelf }
 
--- an archive that has kept nothing yet has a true medium for each tape
-pub first_shelf : {M : Type 0} (told : M → Option TapeRecords) (kept : Kept) → kept ≡ fresh kept.site → TapesHaveMedia told kept.site kept.history → AllTapesHaveMedia told kept.site []
-first_shelf told kept same shelf v low = subst (TapesHaveMedia told kept.site) (ap (λ (k : Kept). k.history) same) shelf v low refl
+pub opened : {M E : Type 0} (told : M → MediumView) (tells : Bool) (site : Site) (ms : List M) (r : Result Kept E) → AreNewMedia tells site (map told ms) → IfOk r (λ k. k ≡ opened_with site (map (λ m. Some (told m)) ms)) → IfOk r (IsOpened tells)
+opened told tells site ms (Ok k) new is = subst (IsOpened tells) (sym is) (record { media = map told ms; new = new; is = ap (opened_with site) (one_shelf told ms) })
+opened told tells site ms (Err e) new is = tt
 
 -- ---- a desk at its start
 
 none_open : (d : ℕ) → HasNoMount [] d
 none_open d m way v at = let no : false ≡ true = at.still in cc
 
-free_states : {M : Type 0} (ms : List (Memo M)) (vs : List DriveView) → length ms ≡ length vs → ((d : ℕ) (m : Memo M) → slice_get ms d ≡ Some m → m.state ≡ state.Free)
-    → drive_states ms vs ≡ map (λ v. record { phase = Free; seen = v }) vs
-free_states [] [] same each = refl
-free_states [] (v ∷ vs) same each = absurd (omega (arith, same))
-free_states (m ∷ ms) [] same each = absurd (omega (arith, same))
-free_states (m ∷ ms) (v ∷ vs) same each =
+free_states : {M : Type 0} (told : M → MediumView) (ms : List (Memo M)) (vs : List DriveView) → length ms ≡ length vs → ((d : ℕ) (m : Memo M) → slice_get ms d ≡ Some m → m.state ≡ state.Free)
+    → drive_states told ms vs ≡ map free_drive vs
+free_states told [] [] same each = refl
+free_states told [] (v ∷ vs) same each = absurd (omega (arith, same))
+free_states told (m ∷ ms) [] same each = absurd (omega (arith, same))
+free_states told (m ∷ ms) (v ∷ vs) same each =
     let now : m.state ≡ state.Free = each 0 m refl in
-    let later : drive_states ms vs ≡ map (λ w. record { phase = Free; seen = w }) vs = free_states ms vs (omega (arith, same)) (λ d n is. each (suc d) n is) in
-    rw now (ap (λ ds. record { phase = Free; seen = v } ∷ ds) later)
+    let later : drive_states told ms vs ≡ map free_drive vs = free_states told ms vs (omega (arith, same)) (λ d n is. each (suc d) n is) in
+    rw now (ap (λ ds. free_drive v ∷ ds) later)
 
-module _ {M : Type 0} (told : M → Option TapeRecords) (site : Site) (ms : List (Memo M)) (vs : List DriveView) (free : AreFree (length site.drives.items) ms) where
+module _ {M : Type 0} (told : M → MediumView) (site : Site) (ms : List (Memo M)) (vs : List DriveView) (free : AreFree (length site.drives.items) ms) where
   free_is : (d : ℕ) (m : Memo M) → slice_get ms d ≡ Some m → m.state ≡ state.Free
   free_is d m is = ap (λ (n : Memo M). n.state) (free.each d m is)
 
-  pub starts : (tells : Bool) → AreNewDrives tells site vs → AllTapesHaveMedia told site [] → Begins told tells site (desk_of (fresh site) ms vs true)
-  starts tells new media = record {
-    seen = vs;
-    drives = new;
-    media = media;
-    run = ap (λ (ds : List DriveState). record { site = site; history = []; drives = ds }) (free_states ms vs (free.count_is ∙ sym new.count) free_is);
+  pub starts : (tells : Bool) (media : List MediumView) → AreNewDrives tells site vs → AreNewMedia tells site media → Begins tells site (desk_of told (fresh site media) ms vs true)
+  starts tells media drives new = record {
+    made = record { media = media; drives = vs };
+    new = record { media = new; drives = drives };
+    run = ap (λ (ds : List DriveState). record { site = site; history = []; shelf = map Some media; drives = ds }) (free_states told ms vs (free.count_is ∙ sym drives.count) free_is);
     ready = refl;
   }
 

@@ -1,13 +1,13 @@
 -- What callers ask is fit for the archive, and so is the content that comes along.
-use Rattle.std.proofs.Common.{◌≡◌, ℕ, List, sym, ap, ◌∙◌}
+use Rattle.std.proofs.Common.{◌≡◌, ℕ, List, refl, sym, ap, ◌∙◌}
 use Rattle.std.specs.Prelude.{Option, Some, None, [], option_map, unwrap_or}
 use Rattle.std.specs.Arc.{arc_value}
-use Rattle.blob.specs.Records.{TapeRecords}
+use Rattle.blob.specs.Records.{MediumView}
 use Rattle.blob.specs.declared.sum.Sum256.{Sum256}
 use Rattle.blob.specs.Sums.{sum_of}
 use Rattle.cta_site.specs.declared.site.Site.{Site}
 use Rattle.cta_model.specs.Bare.{bare_ask}
-use Rattle.cta_model.specs.Hands.{HandIn}
+use Rattle.cta_model.specs.Hands.{HandIn, medium_in}
 use Rattle.cta_model.specs.History.{History}
 use Rattle.cta_model.specs.Legal.{IsFit}
 use Rattle.cta_model.specs.declared.asks.Ask.{Ask}
@@ -40,7 +40,12 @@ callers_fit site h (ask.Retry who paths) sent fit = tt
 same_sum : (blob sent : List ℕ) (sum : Sum256) → Some blob ≡ Some sent → sum ≡ sum_of sent → sum_of blob ≡ sum
 same_sum blob sent sum e f = ap (λ o. sum_of (unwrap_or o [])) e ∙ sym f
 
-pub callers_hand : {M : Type 0} (told : M → Option TapeRecords) (h : History) (k : Ask) (content : Content) → IsCallers (Asks (bare_ask k) (option_map arc_value content)) → HandIn told h k (hand_with content)
+-- what comes along is no medium
+pub callers_medium : {M : Type 0} (told : M → MediumView) (content : Content) → medium_in told (hand_with content) ≡ None
+callers_medium told None = refl
+callers_medium told (Some blob) = refl
+
+pub callers_hand : {M : Type 0} (told : M → MediumView) (h : History) (k : Ask) (content : Content) → IsCallers (Asks (bare_ask k) (option_map arc_value content)) → HandIn told h k (hand_with content)
 callers_hand told h (ask.Put who path sum) None fit = absurd (let no : None ≡ Some fit.0 = fit.1.0 in cc)
 callers_hand told h (ask.Put who path sum) (Some blob) fit = same_sum (arc_value blob) fit.0 sum fit.1.0 fit.1.1
 callers_hand told h (ask.Delete who path) None fit = tt

@@ -3,18 +3,18 @@ use Rattle.std.proofs.Common.{◌≡◌, Bool, ℕ, ◌+◌, ◌<◌, ◌⊎◌,
 use Rattle.std.specs.Io.KnownBytes.{Consumes, IsAtEnd}
 use Rattle.std.proofs.lemmas.List.{append_cancel_left}
 use Rattle.outside.specs.Causes.{Rose}
-use Rattle.blob.specs.Records.{TapeRecords}
+use Rattle.blob.specs.Records.{MediumView}
 use Rattle.cta_site.specs.declared.site.Site.{Site}
 use Rattle.cta_site.specs.WellFormed.{IsWellFormed}
 use Rattle.links.specs.Run.{IsRun}
 use Rattle.replay.specs.Seen.{SourceView, SinkView, World, world, unread}
 use Rattle.replay.specs.Script.{Record, ScriptCut, ScriptTail, Ended, MayGoOn, IsRefusedAt, ended, whole_bytes, tail_bytes, tail_records, cut_bytes, cut_records, InLine, InBytes, BadLine, LongLine, NoLf}
 use Rattle.replay.specs.Run.{ScriptTurn, record_of, links_turns, all_happenings}
-use Rattle.media.specs.Drives.{DriveView}
 use Rattle.replay.specs.Promises.{KeepsPromises}
-use Rattle.replay.specs.Steps.{begun_with}
+use Rattle.replay.specs.Steps.{Made, begun_with}
 use Rattle.replay.specs.Intake.{Took, budget}
-use Rattle.replay.specs.Outcome.{AreNewDrives, Wrote, EndsScript, Finishes, Replays, ReachesEnd, IsReadWhole, RunsToEnd}
+use Rattle.replay.specs.Outcome.{AreMade, Wrote, EndsScript, Finishes, Replays, ReachesEnd, IsReadWhole}
+use Rattle.replay.specs.RecordTurns.{RunsToEnd}
 use Rattle.replay.specs.declared.status.Status.{Status}
 use Rattle.replay.specs.declared.status.Status.TheVariants.{Ok, Usage, Site as SiteRule, Script, ReadFault, WriteFault, NoMemory, TooLong, ListenFault}
 use Rattle.replay.proofs.Readings.{StopsWithin, stops_before_end}
@@ -47,7 +47,7 @@ open_not_refused (NoLf link moment bytes byte) at o r = o
 ended_not_refused : (t : ScriptTail) (at : ℕ) → t ≡ Ended → IsRefusedAt t at → ⊥
 ended_not_refused t at e r = subst (λ s. IsRefusedAt s at) e r
 
-module _ {M : Type 0} (told : M → Option TapeRecords) (tells : Bool) (site : Site) (valid : IsWellFormed site) (seen : List DriveView) (drives : AreNewDrives tells site seen) (records : List Record) (rest : List ℕ) (from to : SourceView) (p q : SinkView) (taken : ℕ) (reaches : ReachesEnd site from.left records rest) where
+module _ (tells : Bool) (site : Site) (valid : IsWellFormed site) (made : Made) (new : AreMade tells site made) (records : List Record) (rest : List ℕ) (from to : SourceView) (p q : SinkView) (taken : ℕ) (reaches : ReachesEnd site from.left records rest) where
   abbrev a : World
   a = world (unread from) p
 
@@ -55,7 +55,7 @@ module _ {M : Type 0} (told : M → Option TapeRecords) (tells : Bool) (site : S
   b = world (record { left = to.left; taken = taken; faults = to.faults }) q
 
   abbrev IsWhole : Type 0
-  IsWhole = IsReadWhole told tells site records rest to p q
+  IsWhole = IsReadWhole tells site records rest to p q
 
   -- an ending at a place where more may come leaves more, and is below the budget
   open_goes_on : (c : ScriptCut) → StopsWithin site valid c.whole records c.tail → MayGoOn c.tail → Takes site records rest c to.left → Took a.script b.script (cut_bytes site c)
@@ -74,17 +74,17 @@ module _ {M : Type 0} (told : M → Option TapeRecords) (tells : Bool) (site : S
   same_cut c e d = ap (λ l. l ++ tail_records c.tail) e ∙ ap (λ u. records ++ tail_records u) d ∙ append-nil records
 
   at_end : (c : ScriptCut) (turns : List ScriptTurn) → Takes site records rest c to.left → StopsWithin site valid c.whole records c.tail → c.tail ≡ Ended → map record_of turns ≡ cut_records c
-      → IsRun site.limits.file (links_turns turns) → Wrote (begun_with site seen) p q (all_happenings turns) → KeepsPromises told site seen turns → IsWhole
+      → IsRun site.limits.file (links_turns turns) → Wrote (begun_with site made) p q (all_happenings turns) → KeepsPromises tells site made turns → IsWhole
   at_end c turns t (inr p) e brought run w kept = absurd (not_both c.tail p.0 e)
   at_end c turns t (inl p) e brought run w kept =
       let front : whole_bytes site records ++ (ended (codes "end") ++ t.after) ≡ whole_bytes site c.whole ++ (tail_bytes site c.tail ++ t.after) =
       ap (λ es. whole_bytes site es ++ (ended (codes "end") ++ t.after)) (sym p.0) ∙ ap (λ u. whole_bytes site c.whole ++ (tail_bytes site u ++ t.after)) (sym e) in
       let both = append_cancel_left (whole_bytes site records) (ended (codes "end") ++ t.after) (ended (codes "end") ++ rest) (front ∙ t.split) in
       let same : t.after ≡ rest = append_cancel_left (ended (codes "end")) t.after rest both in
-      record { left = t.told ∙ ap Some same; seen = seen; drives = drives; turns = turns; run = (brought ∙ same_cut c p.0 e, run); wrote = w; promises = kept }
+      record { left = t.told ∙ ap Some same; made = made; new = new; turns = turns; run = (brought ∙ same_cut c p.0 e, run); wrote = w; promises = kept }
 
   by_status : (status : Status) (c : ScriptCut) (turns : List ScriptTurn) → StopsWithin site valid c.whole records c.tail → Takes site records rest c to.left → Took a.script b.script (cut_bytes site c)
-      → map record_of turns ≡ cut_records c → IsRun site.limits.file (links_turns turns) → KeepsPromises told site seen turns → EndsScript status (begun_with site seen) a b c (all_happenings turns)
+      → map record_of turns ≡ cut_records c → IsRun site.limits.file (links_turns turns) → KeepsPromises tells site made turns → EndsScript status (begun_with site made) a b c (all_happenings turns)
       → (Rose from.faults to.faults → ⊥) → (Rose p.faults q.faults → ⊥) → ((status ≡ Ok) × IsWhole) ⊎ (status ≡ NoMemory)
   by_status Ok c turns s t took brought run kept e no_read no_write = inl (refl, at_end c turns t s e.0 brought run e.1 kept)
   by_status Usage c turns s t took brought run kept e no_read no_write = absurd e
@@ -98,13 +98,13 @@ module _ {M : Type 0} (told : M → Option TapeRecords) (tells : Bool) (site : S
   by_status TooLong c turns s t took brought run kept e no_read no_write = let n = (open_goes_on c s e.0 t took).1 in absurd (omega (arith, e.1))
   by_status ListenFault c turns s t took brought run kept e no_read no_write = absurd e
 
-  completes : (status : Status) (f : Finishes told (begun_with site seen) [] a b status) → KeepsPromises told site seen f.turns → (Rose from.faults to.faults → ⊥) → (Rose p.faults q.faults → ⊥)
+  completes : (status : Status) (f : Finishes (begun_with site made) [] a b status) → KeepsPromises tells site made f.turns → (Rose from.faults to.faults → ⊥) → (Rose p.faults q.faults → ⊥)
       → ((status ≡ Ok) × IsWhole) ⊎ (status ≡ NoMemory)
   completes status f kept no_read no_write =
       let t = takes site records rest f.cut from.left to.left reaches.spelled f.took.bytes in
       let s = stops_before_end site valid f.cut.whole records f.cut.tail t.after rest f.is_cut.0 reaches.each f.is_cut.1 t.split in
       by_status status f.cut f.turns s t f.took f.brought f.run kept f.ends no_read no_write
 
-pub RunsToEnd-from_replays : {M : Type 0} (told : M → Option TapeRecords) (tells : Bool) (status : Status) (site : Site) (from to : SourceView) (a b : SinkView) → Replays told tells status site from to a b → RunsToEnd told tells status site from to a b
-RunsToEnd-from_replays told tells status site from to a b r = λ records rest reaches no_read no_write.
-    completes told tells site r.valid r.seen r.drives records rest from to a b r.taken reaches status r.finishes r.promises no_read no_write
+pub RunsToEnd-from_replays : (tells : Bool) (status : Status) (site : Site) (from to : SourceView) (a b : SinkView) → Replays tells status site from to a b → RunsToEnd tells status site from to a b
+RunsToEnd-from_replays tells status site from to a b r = λ records rest reaches no_read no_write.
+    completes tells site r.valid r.made r.new records rest from to a b r.taken reaches status r.finishes r.promises no_read no_write

@@ -9,7 +9,8 @@ use Rattle.replay.specs.Seen.{SinkView, ScriptView, World, world}
 use Rattle.replay.specs.Run.{Exchange, Happening, turn_with, events_of, answered_on}
 use Rattle.replay.specs.Output.{after}
 use Rattle.replay.specs.Intake.{Took, HasStopped}
-use Rattle.replay.specs.Outcome.{Wrote, IsUnwritten, Feeds, Delivers}
+use Rattle.replay.specs.Outcome.{Wrote}
+use Rattle.replay.specs.RecordTurns.{IsUnwritten, Feeds, Delivers}
 use Rattle.replay.specs.declared.feeding.FeedEnd.TheVariants.{All, Part, Unanswered}
 use Rattle.replay.specs.declared.intake.Stop.{Stop}
 use Rattle.replay.specs.declared.intake.Stop.TheVariants.{End, Fault, Full, Memory}

@@ -9,11 +9,12 @@ use Rattle.replay.specs.Seen.{World, begun}
 use Rattle.replay.specs.Line.{http_text, IsHttp}
 use Rattle.replay.specs.Script.{ScriptCut, InBytes, NoLf, MayGoOn, ended}
 use Rattle.replay.specs.Run.{Exchange, Happening, Answered, OnLink, all_happenings, answered_on, events_of, turn_with}
-use Rattle.blob.specs.Records.{TapeRecords}
+use Rattle.blob.specs.Records.{MediumView}
 use Rattle.replay.specs.Output.{after, run_behind}
 use Rattle.replay.specs.Promises.{AreSound}
 use Rattle.replay.specs.Intake.{Took, HasStopped}
-use Rattle.replay.specs.Outcome.{Wrote, EndsScript, IsUnwritten, FinishesAfter, TurnsAfter, TookLf, stop_status, unwritten_status}
+use Rattle.replay.specs.Outcome.{Wrote, EndsScript}
+use Rattle.replay.specs.RecordTurns.{IsUnwritten, FinishesAfter, TurnsAfter, TookLf, stop_status, unwritten_status}
 use Rattle.replay.specs.declared.intake.Stop.{Stop}
 use Rattle.replay.specs.declared.intake.Stop.TheVariants.{End, Fault, Full, Memory}
 use Rattle.replay.specs.declared.output.Unwritten.{Unwritten}
@@ -38,18 +39,18 @@ abbrev pub http_line : ℕ → ℕ → ℕ → List ℕ
 http_line link moment len = ended (http_text link moment len)
 
 -- what is answered on a link is no step
-pub exchanges_sound : {M : Type 0} (told : M → Option TapeRecords) (k : RunState) (link moment : ℕ) (exchanges : List Exchange) → AreSound told k (answered_on link moment exchanges)
-exchanges_sound told k link moment [] = tt
-exchanges_sound told k link moment (x ∷ xs) = (tt, exchanges_sound told (run_behind k (Answered link moment x)) link moment xs)
+pub exchanges_sound : (k : RunState) (link moment : ℕ) (exchanges : List Exchange) → AreSound k (answered_on link moment exchanges)
+exchanges_sound k link moment [] = tt
+exchanges_sound k link moment (x ∷ xs) = (tt, exchanges_sound (run_behind k (Answered link moment x)) link moment xs)
 
 -- the one turn of a record
 one_happened : (link moment : ℕ) (bytes : List ℕ) (exchanges : List Exchange) → all_happenings (OnLink link moment bytes exchanges ∷ []) ≡ answered_on link moment exchanges
 one_happened link moment bytes exchanges = append-nil (answered_on link moment exchanges)
 
-answers_sound : {M : Type 0} (told : M → Option TapeRecords) (k : RunState) (link moment : ℕ) (bytes : List ℕ) (exchanges : List Exchange) → AreSound told k (all_happenings (OnLink link moment bytes exchanges ∷ []))
-answers_sound told k link moment bytes exchanges = subst (AreSound told k) (sym (one_happened link moment bytes exchanges)) (exchanges_sound told k link moment exchanges)
+answers_sound : (k : RunState) (link moment : ℕ) (bytes : List ℕ) (exchanges : List Exchange) → AreSound k (all_happenings (OnLink link moment bytes exchanges ∷ []))
+answers_sound k link moment bytes exchanges = subst (AreSound k) (sym (one_happened link moment bytes exchanges)) (exchanges_sound k link moment exchanges)
 
-module _ {M : Type 0} (told : M → Option TapeRecords) (follow : RunsFollow) (k : RunState) (before : List Turn) (link moment : ℕ) (bytes : List ℕ) (exchanges : List Exchange)
+module _ (follow : RunsFollow) (k : RunState) (before : List Turn) (link moment : ℕ) (bytes : List ℕ) (exchanges : List Exchange)
     (run : IsRun k.site.limits.file (before ++ turn_with link moment bytes (events_of exchanges) ∷ [])) where
   abbrev happened : List Happening
   happened = answered_on link moment exchanges
@@ -58,7 +59,7 @@ module _ {M : Type 0} (told : M → Option TapeRecords) (follow : RunsFollow) (k
   this_turn = ((follow k.site.limits.file [] before (turn_with link moment bytes (events_of exchanges) ∷ [])).0 run).1
 
   short : (a b : World) (len : ℕ) (status : Status) → IsHttp link moment len → length bytes ≤ len → Took a.script b.script bytes
-      → EndsScript status k (begun a (http_line link moment len)) b (record { whole = []; tail = InBytes link moment len bytes }) happened → FinishesAfter told k before (http_line link moment len) a b status
+      → EndsScript status k (begun a (http_line link moment len)) b (record { whole = []; tail = InBytes link moment len bytes }) happened → FinishesAfter k before (http_line link moment len) a b status
   short a b len status http fits took ends =
       let c : ScriptCut = record { whole = []; tail = InBytes link moment len bytes } in
       record {
@@ -70,13 +71,13 @@ module _ {M : Type 0} (told : M → Option TapeRecords) (follow : RunsFollow) (k
         turns = OnLink link moment bytes exchanges ∷ [];
         brought = refl;
         run = this_turn;
-        sound = answers_sound told k link moment bytes exchanges;
+        sound = answers_sound k link moment bytes exchanges;
         ends = subst (EndsScript status k (begun a (http_line link moment len)) b c) (sym (one_happened link moment bytes exchanges)) ends;
       }
 
   pub short_stopped : (a b : World) (len : ℕ) (why : Stop) → IsHttp link moment len → length bytes ≤ len → Took a.script b.script bytes
       → HasStopped why a.script b.script → Wrote k a.out b.out happened
-      → FinishesAfter told k before (http_line link moment len) a b (stop_status why b.script.taken)
+      → FinishesAfter k before (http_line link moment len) a b (stop_status why b.script.taken)
   short_stopped a b len why http fits took stop wrote =
       short a b len (stop_status why b.script.taken) http fits took
       (EndsScript-stopped why k (begun a (http_line link moment len)) b (record { whole = []; tail = InBytes link moment len bytes }) happened tt (stopped_begun why stop) wrote)
@@ -89,7 +90,7 @@ module _ {M : Type 0} (told : M → Option TapeRecords) (follow : RunsFollow) (k
 
   pub short_unwritten : (a b : World) (len : ℕ) (why : Unwritten) → IsHttp link moment len → length bytes ≤ len → Took a.script b.script bytes
       → IsUnwritten why k a.out b.out happened
-      → FinishesAfter told k before (http_line link moment len) a b (unwritten_status why)
+      → FinishesAfter k before (http_line link moment len) a b (unwritten_status why)
   short_unwritten a b len why http fits took h =
       short a b len (unwritten_status why) http fits took
       (EndsScript-unwritten why k (begun a (http_line link moment len)) b (record { whole = []; tail = InBytes link moment len bytes }) happened tt h)
@@ -97,7 +98,7 @@ module _ {M : Type 0} (told : M → Option TapeRecords) (follow : RunsFollow) (k
   -- another byte than the last LF, or none
   no_lf : (status : Status) (a m b : World) → IsHttp link moment (length bytes) → length (http_line link moment (length bytes)) ≤ a.script.taken
       → Took a.script m.script bytes → Wrote k a.out b.out happened → a.script.faults ≤ m.script.faults
-      → TookLf (Some status) m.script b.script → FinishesAfter told k before (http_line link moment (length bytes)) a b status
+      → TookLf (Some status) m.script b.script → FinishesAfter k before (http_line link moment (length bytes)) a b status
   no_lf status a m b http room took wrote later (inl (byte, other, lf, e)) =
       let line = http_line link moment (length bytes) in
       let whole : length (line ++ bytes) ≡ length line + length bytes = length-append line bytes in
@@ -113,7 +114,7 @@ module _ {M : Type 0} (told : M → Option TapeRecords) (follow : RunsFollow) (k
         turns = OnLink link moment bytes exchanges ∷ [];
         brought = refl;
         run = this_turn;
-        sound = answers_sound told k link moment bytes exchanges;
+        sound = answers_sound k link moment bytes exchanges;
         ends = subst (EndsScript status k (begun a line) b c) (sym (one_happened link moment bytes exchanges)) ends;
       }
   no_lf status a m b http room took wrote later (inr (why, lf, stop, e)) =
@@ -123,7 +124,7 @@ module _ {M : Type 0} (told : M → Option TapeRecords) (follow : RunsFollow) (k
   -- the last LF behind all bytes of a record
   last_lf : (r : Option Status) (links' : Links) (now : RunState) (a m b : World) → IsHttp link moment (length bytes) → length (http_line link moment (length bytes)) ≤ a.script.taken
       → Took a.script m.script bytes → Wrote k a.out b.out happened → StandFor links' k.site.limits.file (before ++ turn_with link moment bytes (events_of exchanges) ∷ []) → now ≡ after k happened
-      → a.script.faults ≤ m.script.faults → TookLf r m.script b.script → TurnsAfter told r links' k now before (http_line link moment (length bytes)) a b
+      → a.script.faults ≤ m.script.faults → TookLf r m.script b.script → TurnsAfter r links' k now before (http_line link moment (length bytes)) a b
   last_lf None links' now a m b http room took wrote stands keeps later lf = record {
     turn = OnLink link moment bytes exchanges;
     is_record = http;
@@ -131,7 +132,7 @@ module _ {M : Type 0} (told : M → Option TapeRecords) (follow : RunsFollow) (k
     spelled = append_assoc (http_line link moment (length bytes)) bytes (10 ∷ []);
     took = Took-trans took lf;
     stands = stands;
-    sound = exchanges_sound told k link moment exchanges;
+    sound = exchanges_sound k link moment exchanges;
     wrote = wrote;
     keeps = keeps;
   }
@@ -140,7 +141,7 @@ module _ {M : Type 0} (told : M → Option TapeRecords) (follow : RunsFollow) (k
   -- the same, where the length is known by an equation
   pub last_lf_len : (r : Option Status) (links' : Links) (now : RunState) (a m b : World) (len : ℕ) → length bytes ≡ len → IsHttp link moment len → length (http_line link moment len) ≤ a.script.taken
       → Took a.script m.script bytes → Wrote k a.out b.out happened → StandFor links' k.site.limits.file (before ++ turn_with link moment bytes (events_of exchanges) ∷ []) → now ≡ after k happened
-      → a.script.faults ≤ m.script.faults → TookLf r m.script b.script → TurnsAfter told r links' k now before (http_line link moment len) a b
+      → a.script.faults ≤ m.script.faults → TookLf r m.script b.script → TurnsAfter r links' k now before (http_line link moment len) a b
   last_lf_len r links' now a m b len e http room took wrote stands keeps later lf =
-      subst (λ n. IsHttp link moment n → length (http_line link moment n) ≤ a.script.taken → TurnsAfter told r links' k now before (http_line link moment n) a b) e
+      subst (λ n. IsHttp link moment n → length (http_line link moment n) ≤ a.script.taken → TurnsAfter r links' k now before (http_line link moment n) a b) e
       (λ h d. last_lf r links' now a m b h d took wrote stands keeps later lf) http room

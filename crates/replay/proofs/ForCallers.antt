@@ -319,10 +319,10 @@ look_replied (Ok reply) k t close look a out site carry e goes same h =
     record { content = option_map arc_value (content_in out); fits = s.fits; is_reply = reply_told k.site a (look_answer_of k.site k.history t look) (content_in out) close reply carry e s.content (h ∙ ap (λ (x : Site). reply_for x a (content_in out) close) same) }
 look_replied (Err x) k t close look a out site carry e goes same h = tt
 
-pub ask_kept : {E : Type 0} (r : Result Reply E) (k now : Kept) (t : ℕ) (ask : Ask) (sent : Option (List ℕ)) (a : Answer) → bare_answer a ≡ answer_of k.site k.history t ask → now ≡ kept_after k t ask (bare_answer a)
+pub ask_kept : {E : Type 0} (r : Result Reply E) (k now : Kept) (t : ℕ) (ask : Ask) (sent : Option (List ℕ)) (a : Answer) → bare_answer a ≡ answer_of k.site k.history t ask → now ≡ kept_after k t ask (bare_answer a) None
     → OnOk r (now ≡ kept_then k t (Asks ask sent))
 unfolding kept_then
-ask_kept (Ok reply) k now t ask sent a e h = h ∙ ap (kept_after k t ask) e
+ask_kept (Ok reply) k now t ask sent a e h = h ∙ ap (λ b. kept_after k t ask b None) e
 ask_kept (Err x) k now t ask sent a e h = tt
 
 pub looks_keep : (k : Kept) (t : ℕ) (look : Look) → k ≡ kept_then k t (Looks look)

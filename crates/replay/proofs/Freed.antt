@@ -3,7 +3,7 @@ use Rattle.std.proofs.Common.{◌≡◌, ℕ, inl, inr, true, List, [], ◌∷�
 use Rattle.std.specs.Prelude.{Option, Some}
 use Rattle.std.proofs.lemmas.Bool.{cases_Bool}
 use Rattle.std.proofs.lemmas.Option.{none-some}
-use Rattle.blob.specs.Records.{TapeRecords}
+use Rattle.blob.specs.Records.{MediumView}
 use Rattle.cta_site.specs.declared.site.Site.{Site}
 use Rattle.cta_site.specs.Listed.{Listed}
 use Rattle.cta_model.specs.declared.answers.Answer.{Answer}
@@ -93,7 +93,7 @@ claim_not_free : {M : Type 0} (x : Mounted M) (a : Answer) (out : Hand M) → Is
 claim_not_free x (answer.Batch items evicted) out free = batch_not_free x.direction items.items x items out free
 claim_not_free x _ out free = free
 
-resolved_not_free : {M : Type 0} (told : M → Option TapeRecords) (h : History) (d m : ℕ) (jobs : List Job) (s : State M) → FitsResolved told h d m jobs s → IsFree s → ⊥
+resolved_not_free : {M : Type 0} (told : M → MediumView) (h : History) (d m : ℕ) (jobs : List Job) (s : State M) → FitsResolved told h d m jobs s → IsFree s → ⊥
 resolved_not_free told h d m jobs state.Free f free = f
 resolved_not_free told h d m jobs (state.Held x) f free = f
 resolved_not_free told h d m jobs (state.Ready x) f free = f
@@ -118,7 +118,7 @@ ended site h t d m f way v legal here n way' v' at =
 
 -- ---- all asks
 
-module _ {M : Type 0} (told : M → Option TapeRecords) (site : Site) (h : History) (legal : IsLegal site h) (t d : ℕ) where
+module _ {M : Type 0} (told : M → MediumView) (site : Site) (h : History) (legal : IsLegal site h) (t d : ℕ) where
   next_freed : (n : ℕ) (a : Answer) (out : Hand M) → bare_answer a ≡ answer_of site h t (ask.Next n) → GoesWith asked.Next state.Free a out → HasNoMount h d → IsFree (next_state a out) → HasNoMount (history_after site h t (ask.Next n)) d
   next_freed n a out is goes idle free =
       elim (cases_Bool (is_accepted (answer_of site h t (ask.Next n)))) [

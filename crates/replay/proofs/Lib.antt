@@ -35,3 +35,6 @@ mod FreeRows
 mod ReadLines
 mod Freed
 mod Promised
+mod Rightly
+mod KeptPromises
+mod Plain

@@ -3,7 +3,7 @@ use Rattle.std.proofs.Common.{◌≡◌, ◌≢◌, ℕ, zero, suc, ◌+◌, ◌
 use Rattle.std.specs.Prelude.{Option, Some, None, map, slice_get, slice_set}
 use Rattle.std.proofs.lemmas.Bool.{cases_Bool, cases_eq}
 use Rattle.std.proofs.lemmas.Option.{none-some, same_Some}
-use Rattle.blob.specs.Records.{TapeRecords}
+use Rattle.blob.specs.Records.{MediumView}
 use Rattle.cta_site.specs.declared.site.Site.{Site}
 use Rattle.cta_model.specs.declared.asks.Ask.{Ask}
 use Rattle.cta_model.specs.declared.answers.Answer.{Answer}
@@ -24,7 +24,7 @@ use Rattle.drive_session.specs.declared.states.State.TheVariants as state
 use Rattle.drive_session.specs.Fits.{FitsState, IsMountAt}
 use Rattle.drive_session.specs.Table.{phase_of}
 use Rattle.session_laws.specs.Laws.{AreOthers, SessionStays}
-use Rattle.replay.specs.Desk.{AreManned, HasNoMount, IsAbout, IsManned, IsRowAbout, drive_states}
+use Rattle.replay.specs.Desk.{AreManned, HasNoMount, IsAbout, IsManned, IsRowAbout, drive_state, drive_states}
 use Rattle.replay.specs.Steps.{kept_by}
 use Rattle.replay.proofs.Freed.{next_makes}
 use Rattle.replay.proofs.OneMount.{stays_idle}
@@ -53,23 +53,23 @@ map-put f [] k x = refl
 map-put f (y ∷ xs) zero x = refl
 map-put f (y ∷ xs) (suc k) x = ap (λ zs. f y ∷ zs) (map-put f xs k x)
 
-pub states_at : {M : Type 0} (ms : List (Memo M)) (vs : List DriveView) (d : ℕ) (m : Memo M) (v : DriveView) → slice_get ms d ≡ Some m → slice_get vs d ≡ Some v
-    → slice_get (drive_states ms vs) d ≡ Some (record { phase = phase_of m.state; seen = v })
-states_at [] vs d m v e f = absurd (let no : None ≡ Some m = e in cc)
-states_at (x ∷ ms) [] d m v e f = absurd (let no : None ≡ Some v = f in cc)
-states_at (x ∷ ms) (w ∷ vs) zero m v e f =
+pub states_at : {M : Type 0} (told : M → MediumView) (ms : List (Memo M)) (vs : List DriveView) (d : ℕ) (m : Memo M) (v : DriveView) → slice_get ms d ≡ Some m → slice_get vs d ≡ Some v
+    → slice_get (drive_states told ms vs) d ≡ Some (drive_state told m v)
+states_at told [] vs d m v e f = absurd (let no : None ≡ Some m = e in cc)
+states_at told (x ∷ ms) [] d m v e f = absurd (let no : None ≡ Some v = f in cc)
+states_at told (x ∷ ms) (w ∷ vs) zero m v e f =
     let a : x ≡ m = same_Some x m e in
     let b : w ≡ v = same_Some w v f in
-    ap (λ (y : Memo _). Some (record { phase = phase_of y.state; seen = w })) a ∙ ap (λ u. Some (record { phase = phase_of m.state; seen = u })) b
-states_at (x ∷ ms) (w ∷ vs) (suc d) m v e f = states_at ms vs d m v e f
+    ap (λ (y : Memo _). Some (drive_state told y w)) a ∙ ap (λ u. Some (drive_state told m u)) b
+states_at told (x ∷ ms) (w ∷ vs) (suc d) m v e f = states_at told ms vs d m v e f
 
-pub states_put : {M : Type 0} (ms : List (Memo M)) (vs : List DriveView) (d : ℕ) (m : Memo M) (v : DriveView)
-    → drive_states (slice_set ms d m) (slice_set vs d v) ≡ slice_set (drive_states ms vs) d (record { phase = phase_of m.state; seen = v })
-states_put [] vs d m v = refl
-states_put (x ∷ ms) [] zero m v = refl
-states_put (x ∷ ms) [] (suc d) m v = refl
-states_put (x ∷ ms) (w ∷ vs) zero m v = refl
-states_put (x ∷ ms) (w ∷ vs) (suc d) m v = ap (λ zs. record { phase = phase_of x.state; seen = w } ∷ zs) (states_put ms vs d m v)
+pub states_put : {M : Type 0} (told : M → MediumView) (ms : List (Memo M)) (vs : List DriveView) (d : ℕ) (m : Memo M) (v : DriveView)
+    → drive_states told (slice_set ms d m) (slice_set vs d v) ≡ slice_set (drive_states told ms vs) d (drive_state told m v)
+states_put told [] vs d m v = refl
+states_put told (x ∷ ms) [] zero m v = refl
+states_put told (x ∷ ms) [] (suc d) m v = refl
+states_put told (x ∷ ms) (w ∷ vs) zero m v = refl
+states_put told (x ∷ ms) (w ∷ vs) (suc d) m v = ap (λ zs. drive_state told x w ∷ zs) (states_put told ms vs d m v)
 
 -- ---- entries about others
 
@@ -93,7 +93,7 @@ others_apart (state.Reading x items at) newer h = h
 others_apart (state.Leaving x) newer h = h
 
 -- the mount of a session that fits
-mount_apart : {M : Type 0} (told : M → Option TapeRecords) (site : Site) (h : History) (d : ℕ) (s : State M) (P : ℕ → Type 0) → FitsState told site h d s
+mount_apart : {M : Type 0} (told : M → MediumView) (site : Site) (h : History) (d : ℕ) (s : State M) (P : ℕ → Type 0) → FitsState told site h d s
     → ((m : ℕ) (x : Mounted M) → IsMountAt h d x.mount x.direction x.tape → x.mount ≡ m → P m) → AreApart s P
 mount_apart told site h d state.Free P f each = tt
 mount_apart told site h d (state.Held x) P f each = each x.mount x f.state.at.mount refl
@@ -132,7 +132,7 @@ drives_apart h d e m n way way' v v' apart a b same =
 
 -- ---- drives stay manned
 
-module _ {M : Type 0} (told : M → Option TapeRecords) (stays : SessionStays told) (site : Site) where
+module _ {M : Type 0} (told : M → MediumView) (stays : SessionStays told) (site : Site) where
   -- one that fits stays so through an entry that is about no mount of it
   pub stays_manned : (newer h : History) (d : ℕ) (m : Memo M) (v : DriveView) → IsLegal site (newer ++ h) → AreApart m.state (λ n. are_about_others n newer ≡ true) → (HasNoMount h d → HasNoMount (newer ++ h) d) → IsManned told site h d m v → IsManned told site (newer ++ h) d m v
   stays_manned newer h d m v legal apart idle x = record {
@@ -160,13 +160,13 @@ module _ {M : Type 0} (told : M → Option TapeRecords) (stays : SessionStays to
       (λ m x at same. subst (λ n. are_about_others n (e ∷ []) ≡ true) same (about_other x.mount e (λ is. there_apart h d x.mount x.direction x.tape at (sym none ∙ is))))
 
   -- an ask of a caller, accepted or not, leaves each drive manned
-  pub callers_keep : (kept : Kept) (t : ℕ) (k : Ask) (a : Answer) (ms : List (Memo M)) (vs : List DriveView) → kept.site ≡ site → asked_mount k ≡ 0 → ((x : Mount) → mount_in k a ≡ Some x → ⊥) → IsLegal site (kept_after kept t k a).history
-      → AreManned told site kept.history ms vs → AreManned told site (kept_after kept t k a).history ms vs
+  pub callers_keep : (kept : Kept) (t : ℕ) (k : Ask) (a : Answer) (ms : List (Memo M)) (vs : List DriveView) → kept.site ≡ site → asked_mount k ≡ 0 → ((x : Mount) → mount_in k a ≡ Some x → ⊥) → IsLegal site (kept_after kept t k a None).history
+      → AreManned told site kept.history ms vs → AreManned told site (kept_after kept t k a None).history ms vs
   callers_keep kept t k a ms vs same none makes_none legal x =
       elim (cases_Bool (is_accepted a)) [
         | inl hit ↦
             let e = new_entry kept.history t k a in
-            let grown : (kept_after kept t k a).history ≡ e ∷ kept.history = rw hit refl in
+            let grown : (kept_after kept t k a None).history ≡ e ∷ kept.history = rw hit refl in
             rw grown (record {
               sessions = x.sessions;
               drives = x.drives;
@@ -175,7 +175,7 @@ module _ {M : Type 0} (told : M → Option TapeRecords) (stays : SessionStays to
                   stays_manned (e ∷ []) kept.history d m v (subst (IsLegal site) grown legal) (callers_apart kept.history d m.state e none y.fits) (stays_idle e kept.history d (λ made is_made same_drive. makes_none made is_made)) y;
             })
         | inr miss ↦
-            let stayed : (kept_after kept t k a).history ≡ kept.history = rw miss refl in
+            let stayed : (kept_after kept t k a None).history ≡ kept.history = rw miss refl in
             rw stayed x
       ]
 
@@ -186,29 +186,29 @@ module _ {M : Type 0} (told : M → Option TapeRecords) (stays : SessionStays to
       mount_apart told site h other s (λ n. are_about_others n (e ∷ []) ≡ true) f
       (λ m x there same. subst (λ n. are_about_others n (e ∷ []) ≡ true) same (about_other x.mount e (drives_apart h d other (asked_mount e.ask) x.mount here.0 x.direction here.1.0 x.tape apart here.1.1 there)))
 
-  other_stays : (kept : Kept) (t d other : ℕ) (k : Ask) (a : Answer) (m : Memo M) (v : DriveView) → IsLegal site (kept_after kept t k a).history → d ≢ other → IsAbout kept.history d k
-      → IsManned told site kept.history other m v → IsManned told site (kept_after kept t k a).history other m v
-  other_stays kept t d other k a m v legal apart about x =
+  other_stays : (kept : Kept) (t d other : ℕ) (k : Ask) (a : Answer) (left : Option MediumView) (m : Memo M) (v : DriveView) → IsLegal site (kept_after kept t k a left).history → d ≢ other → IsAbout kept.history d k
+      → IsManned told site kept.history other m v → IsManned told site (kept_after kept t k a left).history other m v
+  other_stays kept t d other k a left m v legal apart about x =
       elim (cases_Bool (is_accepted a)) [
         | inl hit ↦
             let e = new_entry kept.history t k a in
-            let grown : (kept_after kept t k a).history ≡ e ∷ kept.history = rw hit refl in
+            let grown : (kept_after kept t k a left).history ≡ e ∷ kept.history = rw hit refl in
             rw grown (stays_manned (e ∷ []) kept.history other m v (subst (IsLegal site) grown legal) (step_apart kept.history d other m.state e apart about x.fits)
             (stays_idle e kept.history other (λ made is_made same_drive. apart (sym (next_makes d k a made about.0 is_made) ∙ same_drive))) x)
         | inr miss ↦
-            let stayed : (kept_after kept t k a).history ≡ kept.history = rw miss refl in
+            let stayed : (kept_after kept t k a left).history ≡ kept.history = rw miss refl in
             rw stayed x
       ]
 
-  row_stays : (kept : Kept) (t d other : ℕ) (o : Option Ask) (m : Memo M) (v : DriveView) → IsLegal site (kept_by kept t o).history → d ≢ other → IsRowAbout kept.history d o
-      → IsManned told site kept.history other m v → IsManned told site (kept_by kept t o).history other m v
-  row_stays kept t d other None m v legal apart about x = x
-  row_stays kept t d other (Some k) m v legal apart about x = other_stays kept t d other k (answer_of kept.site kept.history t k) m v legal apart about x
+  row_stays : (kept : Kept) (t d other : ℕ) (left : Option MediumView) (o : Option Ask) (m : Memo M) (v : DriveView) → IsLegal site (kept_by kept t left o).history → d ≢ other → IsRowAbout kept.history d o
+      → IsManned told site kept.history other m v → IsManned told site (kept_by kept t left o).history other m v
+  row_stays kept t d other left None m v legal apart about x = x
+  row_stays kept t d other left (Some k) m v legal apart about x = other_stays kept t d other k (answer_of kept.site kept.history t k) left m v legal apart about x
 
   -- a step of one drive leaves all of them manned
-  pub step_keeps : (kept now : Kept) (t d : ℕ) (o : Option Ask) (ms : List (Memo M)) (vs : List DriveView) (m : Memo M) (v : DriveView) → now ≡ kept_by kept t o → now.site ≡ site → IsLegal site now.history → IsRowAbout kept.history d o
+  pub step_keeps : (kept now : Kept) (t d : ℕ) (left : Option MediumView) (o : Option Ask) (ms : List (Memo M)) (vs : List DriveView) (m : Memo M) (v : DriveView) → now ≡ kept_by kept t left o → now.site ≡ site → IsLegal site now.history → IsRowAbout kept.history d o
       → AreManned told site kept.history ms vs → d < length ms → d < length vs → IsManned told site now.history d m v → AreManned told site now.history (slice_set ms d m) (slice_set vs d v)
-  step_keeps kept now t d o ms vs m v e same legal about x in_ms in_vs here = record {
+  step_keeps kept now t d left o ms vs m v e same legal about x in_ms in_vs here = record {
     sessions = length-put ms d m ∙ x.sessions;
     drives = length-put vs d v ∙ x.drives;
     each = λ other n w is seen.
@@ -219,6 +219,6 @@ module _ {M : Type 0} (told : M → Option TapeRecords) (stays : SessionStays to
               subst (λ k. IsManned told site now.history k n w) (sym hit) (subst (λ u. IsManned told site now.history d n u) seen' (subst (λ u. IsManned told site now.history d u v) is' here))
           | inr apart ↦
               let was = x.each other n w (sym (got_other ms d other m apart) ∙ is) (sym (got_other vs d other v apart) ∙ seen) in
-              subst (λ k. IsManned told site k.history other n w) (sym e) (row_stays kept t d other o n w (subst (λ k. IsLegal site k.history) e legal) (λ f. apart (sym f)) about was)
+              subst (λ k. IsManned told site k.history other n w) (sym e) (row_stays kept t d other left o n w (subst (λ k. IsLegal site k.history) e legal) (λ f. apart (sym f)) about was)
         ];
   }

@@ -4,14 +4,15 @@ use Rattle.std.specs.Prelude.{map}
 use Rattle.std.specs.List.{flat_map}
 use Rattle.std.proofs.lemmas.Bool.{cases_Bool}
 use Rattle.cta_site.specs.declared.site.Site.{Site}
-use Rattle.replay.specs.Steps.{RunState, kept_in}
+use Rattle.replay.specs.Steps.{RunState, begun_with, kept_in}
 use Rattle.conn.specs.Cut.{Event}
 use Rattle.links.specs.Run.{Feed, Turn, feed_of}
 use Rattle.links.specs.Laws.{HasOneRun}
 use Rattle.replay.specs.Script.{feed, Record, OfLink, OfDrive, HasOneReading, cut_records}
 use Rattle.replay.specs.Run.{Exchange, ScriptTurn, OnLink, OnDrive, Happening, Answered, Stepped, events_of, record_of, links_turns, Contents, Device, from_outside, turn_with, happenings_on}
-use Rattle.replay.specs.Output.{event_text, run_behind, output_of, replies_on}
-use Rattle.replay.specs.Laws.{HasLinksApart, HasOneOutput}
+use Rattle.replay.specs.Output.{event_text, run_behind}
+use Rattle.replay.specs.Laws.{replies_on, HasLinksApart, HasOneOutput}
+use Rattle.replay.proofs.Plain.{one_plain_output, plain_turn}
 
 -- ---- replies on a link
 
@@ -42,7 +43,7 @@ links_apart kept (Answered l moment exchange ∷ hs) link h =
       | inl e ↦ here kept l moment link exchange hs e later h.0
       | inr e ↦ elsewhere kept l moment link exchange hs e later h.0
     ]
-links_apart kept (Stepped drive moment done seen ∷ hs) link h = ap (λ s. replies_on link s hs) h.0 ∙ links_apart kept hs link h.1
+links_apart kept (Stepped drive moment done seen left ∷ hs) link h = ap (λ s. replies_on link s hs) h.0 ∙ links_apart kept hs link h.1
 
 -- ---- turns told by records, events and contents
 
@@ -71,7 +72,7 @@ feeds_in (OfDrive drive moment) = []
 feeds_told : (ts : List ScriptTurn) → map feed_of (links_turns ts) ≡ flat_map feeds_in (map record_of ts)
 feeds_told [] = refl
 feeds_told (OnLink link moment bytes exchanges ∷ ts) = ap (λ fs. feed link moment bytes ∷ fs) (feeds_told ts)
-feeds_told (OnDrive drive moment done seen ∷ ts) = feeds_told ts
+feeds_told (OnDrive drive moment done seen left ∷ ts) = feeds_told ts
 
 same_feed : (f g : Feed) → OfLink f ≡ OfLink g → f ≡ g
 same_feed f g e = cc
@@ -79,26 +80,26 @@ same_feed f g e = cc
 no_drive : (f : Feed) (drive moment : ℕ) → OfLink f ≡ OfDrive drive moment → ⊥
 no_drive f drive moment e = cc
 
-same_turns : (xs ys : List ScriptTurn) → map record_of xs ≡ map record_of ys → links_turns xs ≡ links_turns ys → map from_outside xs ≡ map from_outside ys → xs ≡ ys
+-- turns that are told alike differ in no more than media, and how drives are seen
+same_turns : (xs ys : List ScriptTurn) → map record_of xs ≡ map record_of ys → links_turns xs ≡ links_turns ys → map from_outside xs ≡ map from_outside ys → map plain_turn xs ≡ map plain_turn ys
 same_turns [] [] e f g = refl
 same_turns [] (y ∷ ys) e f g = cc
-same_turns (OnDrive drive moment done seen ∷ xs) [] e f g = cc
-same_turns (OnDrive drive moment done seen ∷ xs) (OnLink link at bytes es ∷ ys) e f g =
+same_turns (OnDrive drive moment done seen left ∷ xs) [] e f g = cc
+same_turns (OnDrive drive moment done seen left ∷ xs) (OnLink link at bytes es ∷ ys) e f g =
     let head : OfLink (feed link at bytes) ≡ OfDrive drive moment = cc in
     absurd (no_drive (feed link at bytes) drive moment head)
-same_turns (OnDrive drive moment done seen ∷ xs) (OnDrive drive' moment' done' seen' ∷ ys) e f g =
+same_turns (OnDrive drive moment done seen left ∷ xs) (OnDrive drive' moment' done' seen' left' ∷ ys) e f g =
     let head : OfDrive drive moment ≡ OfDrive drive' moment' = cc in
     let records : map record_of xs ≡ map record_of ys = cc in
-    let outside : Device done seen ≡ Device done' seen' = cc in
+    let outside : Device done ≡ Device done' = cc in
     let more : map from_outside xs ≡ map from_outside ys = cc in
     let which : drive ≡ drive' = cc in
     let when : moment ≡ moment' = cc in
     let answered : done ≡ done' = cc in
-    let is_seen : seen ≡ seen' = cc in
-    let first : OnDrive drive moment done seen ≡ OnDrive drive' moment' done' seen' = cc in
-    ap (λ t. t ∷ xs) first ∙ ap (λ ts. OnDrive drive' moment' done' seen' ∷ ts) (same_turns xs ys records f more)
+    let first : plain_turn (OnDrive drive moment done seen left) ≡ plain_turn (OnDrive drive' moment' done' seen' left') = rw (which, when, answered) refl in
+    ap₂ (λ t ts. t ∷ ts) first (same_turns xs ys records f more)
 same_turns (OnLink link moment bytes es ∷ xs) [] e f g = cc
-same_turns (OnLink link moment bytes es ∷ xs) (OnDrive drive at done seen ∷ ys) e f g =
+same_turns (OnLink link moment bytes es ∷ xs) (OnDrive drive at done seen left ∷ ys) e f g =
     let head : OfLink (feed link moment bytes) ≡ OfDrive drive at = cc in
     absurd (no_drive (feed link moment bytes) drive at head)
 same_turns (OnLink link moment bytes es ∷ xs) (OnLink link' moment' bytes' es' ∷ ys) e f g =
@@ -111,15 +112,15 @@ same_turns (OnLink link moment bytes es ∷ xs) (OnLink link' moment' bytes' es'
     let content : map (λ (x : Exchange). x.content) es ≡ map (λ (x : Exchange). x.content) es' = cc in
     let more : map from_outside xs ≡ map from_outside ys = cc in
     let exchanges = same_exchanges es es' (ap (λ (t : Turn). t.events) turn) content in
-    ap (λ (h : Feed). OnLink h.link h.moment h.bytes es ∷ xs) fed ∙ ap (λ x. OnLink link' moment' bytes' x ∷ xs) exchanges
-    ∙ ap (λ zs. OnLink link' moment' bytes' es' ∷ zs) (same_turns xs ys records turns more)
+    let first = ap (λ (h : Feed). OnLink h.link h.moment h.bytes es) fed ∙ ap (OnLink link' moment' bytes') exchanges in
+    ap₂ (λ t ts. t ∷ ts) first (same_turns xs ys records turns more)
 
 pub one_output : (site : Site) → HasOneReading site → HasOneRun → HasOneOutput site
-one_output site reading run seen c d xs ys is_c is_d bytes of_c of_d outside =
+one_output site reading run made c d xs ys is_c is_d bytes of_c of_d outside =
     let same : cut_records c ≡ cut_records d = ap cut_records (reading c d is_c is_d bytes) in
     let records : map record_of xs ≡ map record_of ys = of_c.0 ∙ same ∙ sym of_d.0 in
     let feeds = feeds_told xs ∙ ap (flat_map feeds_in) records ∙ sym (feeds_told ys) in
     elim (run site.limits.file (map feed_of (links_turns ys)) (links_turns xs) (links_turns ys) (feeds, of_c.1) (refl, of_d.1)) [
-      | inl turns ↦ inl (ap (output_of site seen) (same_turns xs ys records turns outside))
+      | inl turns ↦ inl (one_plain_output (begun_with site made) xs ys (same_turns xs ys records turns outside))
       | inr differs ↦ inr differs
     ]

@@ -1,47 +1,43 @@
--- What a run keeps from its start, by what each of its steps keeps.
-use Rattle.std.proofs.Common.{◌≡◌, ◌≢◌, ℕ, zero, suc, ◌≤◌, inl, inr, true, false, List, [], ◌∷◌, refl, sym, ap, ◌∙◌, subst}
-use Rattle.std.specs.Prelude.{Option, Some, None, map, slice_get, slice_set}
+-- What a run keeps from its start, by what each of its steps keeps: fit asks, and the media of its tapes.
+use Rattle.std.proofs.Common.{◌≡◌, ℕ, ◌≤◌, inl, inr, false, List, [], ◌∷◌, refl, sym, subst}
+use Rattle.std.specs.Prelude.{Option, Some, None}
 use Rattle.std.specs.List.{AllByRecursion}
-use Rattle.std.proofs.lemmas.Bool.{cases_Bool, cases_eq}
-use Rattle.std.proofs.lemmas.Option.{none-some, same_Some}
-use Rattle.blob.specs.Records.{TapeRecords}
+use Rattle.std.proofs.lemmas.Bool.{cases_Bool}
+use Rattle.blob.specs.Records.{MediumView}
+use Rattle.cta_site.specs.declared.site.Site.{Site}
+use Rattle.cta_model.specs.declared.answers.Answer.{Answer}
 use Rattle.cta_model.specs.declared.asks.Ask.{Ask}
 use Rattle.cta_model.specs.declared.asks.Ask.TheVariants as ask
 use Rattle.cta_model.specs.Answers.{answer_of, is_accepted}
 use Rattle.cta_model.specs.History.{History}
-use Rattle.cta_model.specs.Kept.{Kept, KeepsLegal, kept_after}
+use Rattle.cta_model.specs.Kept.{Kept, KeepsLegal, kept_after, shelf_after}
 use Rattle.cta_model.specs.Legal.{IsLegal, greatest_moment, new_entry}
-use Rattle.cta_laws.specs.Jobs.{ClaimerMoves, IsQueuedOrClaimed}
-use Rattle.cta_laws.specs.Mounts.{ClaimsNothingAfterEnd}
+use Rattle.cta_laws.specs.Changes.{may_change_mounts}
 use Rattle.cta_laws.specs.Media.{TrueMediumStays, puts_on}
 use Rattle.conn.specs.Cut.{Event, Continues, Requests, Refuses}
-use Rattle.drive_session.specs.Steps.{NoMismatch}
-use Rattle.drive_session.specs.Table.{Free, Row}
+use Rattle.drive_session.specs.Table.{Row}
 use Rattle.media.specs.Drives.{DriveView}
 use Rattle.tape_routes.specs.Asked.{Asked, Asks, Looks, Replies, asked}
 use Rattle.tape_routes.specs.Answering.{kept_then, request_keeps}
 use Rattle.tape_routes.specs.Callers.{CallersAsk, IsCallers}
-use Rattle.history_laws.proofs.Held.{legal_histories_hold}
-use Rattle.replay.specs.Laws.{LiveReadsAreDone, RunsKeepPromises}
-use Rattle.replay.specs.Output.{AskFitly, after, event_keeps, run_behind}
-use Rattle.replay.specs.Promises.{AllTapesHaveMedia, AlwaysTell, AreSound, HaveMediaBehind, ReadsRightly}
-use Rattle.replay.specs.Run.{Answered, Happening, Stepped, all_happenings}
-use Rattle.replay.specs.Steps.{DriveState, RunState, begun_with, behind_row, kept_in, row_at}
-use Rattle.replay.proofs.Histories.{IsLawful, IsTimely, ask_keeps, happening_is_lawful, legal_histories, turns_timely}
-use Rattle.replay.proofs.ReadLines.{silent}
-use Rattle.replay.proofs.Returned.{leaves_none, returns_jobs}
-use Rattle.replay.proofs.Running.{kept_after-site, run_behind-site}
+use Rattle.replay.specs.Output.{after, event_keeps, run_behind}
+use Rattle.replay.specs.Laws.{AskFitly, AsksFit}
+use Rattle.replay.specs.Promises.{AllTapesHaveMedia, AreSound, HaveMediaBehind, IsSound}
+use Rattle.replay.specs.Run.{Answered, Happening, Stepped}
+use Rattle.replay.specs.Steps.{RunState, behind_row, kept_in, row_at, with_kept}
+use Rattle.replay.proofs.Histories.{IsLawful, IsTimely, ask_keeps, happening_is_lawful}
+use Rattle.replay.proofs.Running.{run_behind-site}
 use Rattle.replay.proofs.TrueMedia.{media_stay}
 
 -- each step asks what a session may ask
-pub fitly : {M : Type 0} (told : M → Option TapeRecords) (k : RunState) (hs : List Happening) → AreSound told k hs → AskFitly k hs
-fitly told k [] sound = tt
-fitly told k (Answered link moment exchange ∷ hs) sound = (tt, fitly told (run_behind k (Answered link moment exchange)) hs sound.1)
-fitly told k (Stepped drive moment heard seen ∷ hs) sound = (sound.0.fit, fitly told (run_behind k (Stepped drive moment heard seen)) hs sound.1)
+pub fitly : (k : RunState) (hs : List Happening) → AreSound k hs → AskFitly k hs
+fitly k [] sound = tt
+fitly k (Answered link moment exchange ∷ hs) sound = (tt, fitly (run_behind k (Answered link moment exchange)) hs sound.1)
+fitly k (Stepped drive moment heard seen left ∷ hs) sound = (sound.0.fit, fitly (run_behind k (Stepped drive moment heard seen left)) hs sound.1)
 
--- ---- media
+-- ---- what callers ask
 
--- what a caller asks puts nothing on tape
+-- it puts nothing on tape
 puts_nothing : (h : History) (k : Ask) (sent : Option (List ℕ)) (v : ℕ) → IsCallers (Asks k sent) → puts_on h k v ≡ false
 puts_nothing h (ask.Next d) sent v f = absurd f
 puts_nothing h (ask.Claim m) sent v f = absurd f
@@ -51,113 +47,78 @@ puts_nothing h (ask.Failed m fault charged returned) sent v f = absurd f
 puts_nothing h (ask.End m fault) sent v f = absurd f
 puts_nothing h _ sent v f = refl
 
-module _ {M : Type 0} (told : M → Option TapeRecords) (keeps : KeepsLegal) (callers : CallersAsk) (stays : TrueMediumStays) where
-  abbrev HaveMedia : Kept → Type 0
-  HaveMedia k = AllTapesHaveMedia told k.site k.history
+-- it opens and ends no mount
+mounts_nothing : (k : Ask) (sent : Option (List ℕ)) → IsCallers (Asks k sent) → may_change_mounts k ≡ false
+mounts_nothing (ask.Next d) sent f = absurd f
+mounts_nothing (ask.End m fault) sent f = absurd f
+mounts_nothing _ sent f = refl
 
-  ask_media : (k : Kept) (t : ℕ) (x : Ask) (sent : Option (List ℕ)) → IsCallers (Asks x sent) → t ≤ greatest_moment → IsLawful k → HaveMedia k → AllTapesHaveMedia told k.site (kept_after k t x (answer_of k.site k.history t x)).history
-  ask_media k t x sent fit low legal media =
-      let a = answer_of k.site k.history t x in
-      let now : IsLawful (kept_after k t x a) = ask_keeps keeps callers k t x sent fit low legal in
-      let here : IsLegal k.site (kept_after k t x a).history = subst (λ s. IsLegal s (kept_after k t x a).history) (kept_after-site k t x a) now in
+-- it leaves the shelf
+leaves_shelf : (k : Ask) (sent : Option (List ℕ)) (a : Answer) (shelf : List (Option MediumView)) → IsCallers (Asks k sent) → shelf_after k a None shelf ≡ shelf
+leaves_shelf (ask.Next d) sent a shelf f = absurd f
+leaves_shelf (ask.End m fault) sent a shelf f = absurd f
+leaves_shelf _ sent a shelf f = refl
+
+-- what is kept behind it: no more than its entry
+then_shelf : (k : Kept) (t : ℕ) (x : Asked) → IsCallers x → (kept_then k t x).shelf ≡ k.shelf
+unfolding kept_then
+then_shelf k t (Asks x sent) fit =
+    elim (cases_Bool (is_accepted (answer_of k.site k.history t x))) [
+      | inl hit ↦ rw hit (leaves_shelf x sent (answer_of k.site k.history t x) k.shelf fit)
+      | inr miss ↦ rw miss refl
+    ]
+then_shelf k t (Looks look) fit = refl
+then_shelf k t (Replies reply) fit = refl
+
+pub event_shelf : CallersAsk → (k : Kept) (t : ℕ) (e : Event) → (event_keeps k t e).shelf ≡ k.shelf
+unfolding request_keeps
+event_shelf callers k t Continues = refl
+event_shelf callers k t (Requests request) = then_shelf k t (asked k.site request) (callers k.site request)
+event_shelf callers k t (Refuses refusal) = refl
+
+-- ---- media
+
+module _ (keeps : KeepsLegal) (callers : CallersAsk) (stays : TrueMediumStays) where
+  ask_media : (s : RunState) (t : ℕ) (x : Ask) (sent : Option (List ℕ)) → IsCallers (Asks x sent) → t ≤ greatest_moment → IsLawful (kept_in s) → AllTapesHaveMedia s
+      → AllTapesHaveMedia (with_kept s (kept_after (kept_in s) t x (answer_of s.site s.history t x) None))
+  ask_media s t x sent fit low legal media =
+      let a = answer_of s.site s.history t x in
+      let now : IsLawful (kept_after (kept_in s) t x a None) = ask_keeps keeps callers (kept_in s) t x sent fit low legal in
       elim (cases_Bool (is_accepted a)) [
         | inl hit ↦
-            let e = new_entry k.history t x a in
-            let grown : (kept_after k t x a).history ≡ e ∷ k.history = rw hit refl in
-            rw grown (media_stay told stays k.site k.history e (subst (IsLegal k.site) grown here) (λ v. puts_nothing k.history x sent v fit) media)
-        | inr miss ↦
-            let stayed : (kept_after k t x a).history ≡ k.history = rw miss refl in
-            rw stayed media
+            let e = new_entry s.history t x a in
+            let grown : IsLegal s.site (e ∷ s.history) = rw hit at now in
+            rw (hit, leaves_shelf x sent a s.shelf fit) (media_stay stays s e grown (mounts_nothing x sent fit) (λ v. puts_nothing s.history x sent v fit) media)
+        | inr miss ↦ rw miss media
       ]
 
-  then_media : (k : Kept) (t : ℕ) (x : Asked) → IsCallers x → t ≤ greatest_moment → IsLawful k → HaveMedia k → AllTapesHaveMedia told k.site (kept_then k t x).history
+  then_media : (s : RunState) (t : ℕ) (x : Asked) → IsCallers x → t ≤ greatest_moment → IsLawful (kept_in s) → AllTapesHaveMedia s → AllTapesHaveMedia (with_kept s (kept_then (kept_in s) t x))
   unfolding kept_then
-  then_media k t (Asks x sent) fit low legal media = ask_media k t x sent fit low legal media
-  then_media k t (Looks look) fit low legal media = media
-  then_media k t (Replies reply) fit low legal media = media
+  then_media s t (Asks x sent) fit low legal media = ask_media s t x sent fit low legal media
+  then_media s t (Looks look) fit low legal media = media
+  then_media s t (Replies reply) fit low legal media = media
 
-  event_media : (k : Kept) (t : ℕ) (e : Event) → t ≤ greatest_moment → IsLawful k → HaveMedia k → AllTapesHaveMedia told k.site (event_keeps k t e).history
+  event_media : (s : RunState) (t : ℕ) (e : Event) → t ≤ greatest_moment → IsLawful (kept_in s) → AllTapesHaveMedia s → AllTapesHaveMedia (with_kept s (event_keeps (kept_in s) t e))
   unfolding request_keeps
-  event_media k t Continues low legal media = media
-  event_media k t (Requests request) low legal media = then_media k t (asked k.site request) (callers k.site request) low legal media
-  event_media k t (Refuses refusal) low legal media = media
+  event_media s t Continues low legal media = media
+  event_media s t (Requests request) low legal media = then_media s t (asked s.site request) (callers s.site request) low legal media
+  event_media s t (Refuses refusal) low legal media = media
 
-  row_media : (k : RunState) (drive moment : ℕ) (seen : DriveView) (o : Option Row) → HaveMediaBehind told (kept_in k) moment o → AllTapesHaveMedia told k.site k.history → AllTapesHaveMedia told k.site (behind_row k drive moment seen o).history
-  row_media k drive moment seen None behind media = media
-  row_media k drive moment seen (Some r) behind media = behind
+  row_media : (s : RunState) (drive moment : ℕ) (seen : DriveView) (left : Option MediumView) (o : Option Row) → HaveMediaBehind s drive moment seen left o → AllTapesHaveMedia s
+      → AllTapesHaveMedia (behind_row s drive moment seen left o)
+  row_media s drive moment seen left None behind media = media
+  row_media s drive moment seen left (Some r) behind media = behind
 
-  all_media : (k : RunState) (hs : List Happening) → AreSound told k hs → AllByRecursion IsTimely hs → IsLegal k.site k.history → AllTapesHaveMedia told k.site k.history → AllTapesHaveMedia told k.site (after k hs).history
-  all_media k [] sound timely legal media = media
-  all_media k (Answered link moment exchange ∷ hs) sound timely legal media =
-      let h = Answered link moment exchange in
-      all_media (run_behind k h) hs sound.1 timely.1 (happening_is_lawful keeps callers k h tt timely.0 legal) (event_media (kept_in k) moment exchange.event timely.0 legal media)
-  all_media k (Stepped drive moment heard seen ∷ hs) sound timely legal media =
-      let h = Stepped drive moment heard seen in
-      let site = run_behind-site k h in
-      let next : AllTapesHaveMedia told k.site (run_behind k h).history = row_media k drive moment seen (row_at k drive heard) sound.0.media media in
-      let lawful : IsLegal k.site (run_behind k h).history = happening_is_lawful keeps callers k h sound.0.fit timely.0 legal in
-      subst (λ s. AllTapesHaveMedia told s (after (run_behind k h) hs).history) site
-      (all_media (run_behind k h) hs sound.1 timely.1 (subst (λ s. IsLegal s (run_behind k h).history) (sym site) lawful) (subst (λ s. AllTapesHaveMedia told s (run_behind k h).history) (sym site) next))
+  media_behind : (s : RunState) (h : Happening) → IsSound s h → IsTimely h → IsLegal s.site s.history → AllTapesHaveMedia s → AllTapesHaveMedia (run_behind s h)
+  media_behind s (Answered link moment exchange) sound timely legal media = event_media s moment exchange.event timely legal media
+  media_behind s (Stepped drive moment heard seen left) sound timely legal media = row_media s drive moment seen left (row_at s drive heard) sound.media media
 
--- ---- reads
+  asks_fit : (s : RunState) (h : Happening) → IsSound s h → AsksFit s h
+  asks_fit s (Answered link moment exchange) sound = tt
+  asks_fit s (Stepped drive moment heard seen left) sound = sound.fit
 
--- the drive of this number is honest
-abbrev IsHonestIn : ℕ → List DriveState → Type 0
-IsHonestIn d ds = (x : DriveState) → slice_get ds d ≡ Some x → x.seen.honest ≡ true
-
-put_same : {A : Type 0} (xs : List A) (k : ℕ) (x y : A) → slice_get (slice_set xs k x) k ≡ Some y → x ≡ y
-put_same [] k x y is = absurd (none-some y is)
-put_same (z ∷ xs) zero x y is = same_Some x y is
-put_same (z ∷ xs) (suc k) x y is = put_same xs k x y is
-
-put_other : {A : Type 0} (xs : List A) (k j : ℕ) (x : A) → j ≢ k → slice_get (slice_set xs k x) j ≡ slice_get xs j
-put_other [] k j x apart = refl
-put_other (y ∷ xs) zero zero x apart = absurd (apart refl)
-put_other (y ∷ xs) zero (suc j) x apart = refl
-put_other (y ∷ xs) (suc k) zero x apart = refl
-put_other (y ∷ xs) (suc k) (suc j) x apart = put_other xs k j x (λ e. apart (ap suc e))
-
-honest_put : (ds : List DriveState) (k d : ℕ) (y : DriveState) → (k ≡ d → y.seen.honest ≡ true) → IsHonestIn d ds → IsHonestIn d (slice_set ds k y)
-honest_put ds k d y new all x is =
-    elim (cases_eq d k) [
-      | inl same ↦ ap (λ (z : DriveState). z.seen.honest) (sym (put_same ds k y x (ap (slice_get (slice_set ds k y)) (sym same) ∙ is))) ∙ new (sym same)
-      | inr apart ↦ all x (sym (put_other ds k d y apart) ∙ is)
-    ]
-
-row_honest : (k : RunState) (drive moment d : ℕ) (seen : DriveView) (o : Option Row) → (drive ≡ d → seen.honest ≡ true) → IsHonestIn d k.drives → IsHonestIn d (behind_row k drive moment seen o).drives
-row_honest k drive moment d seen None new all = all
-row_honest k drive moment d seen (Some r) new all = honest_put k.drives drive d (record { phase = _; seen = seen }) new all
-
-module _ {M : Type 0} (told : M → Option TapeRecords) (tells : AlwaysTell told) (reads : LiveReadsAreDone) (d : ℕ) where
-  read_rightly : (k : RunState) (hs : List Happening) → AreSound told k hs → IsHonestIn d k.drives → ReadsRightly d k hs
-  read_rightly k [] sound all = tt
-  read_rightly k (Answered link moment exchange ∷ hs) sound all = (tt, read_rightly (run_behind k (Answered link moment exchange)) hs sound.1 all)
-  read_rightly k (Stepped drive moment heard seen ∷ hs) sound all =
-      let x : drive ≡ d → (seen.honest ≡ true) × NoMismatch heard = λ same. sound.0.honest tells (subst (λ e. IsHonestIn e k.drives) (sym same) all) in (
-        λ same. record {
-          none = (x same).1;
-          silent = λ l is. silent l heard (sound.0.said l is) (x same).1;
-          reads = reads k drive moment heard (x same).1;
-        },
-        read_rightly (run_behind k (Stepped drive moment heard seen)) hs sound.1 (row_honest k drive moment d seen (row_at k drive heard) (λ same. (x same).0) all),
-      )
-
-begun_honest : (seen : List DriveView) (d : ℕ) (v : DriveView) → slice_get seen d ≡ Some v → v.honest ≡ true → IsHonestIn d (map (λ w. record { phase = Free; seen = w }) seen)
-begun_honest [] d v is honest x at = absurd (none-some v is)
-begun_honest (w ∷ ws) zero v is honest x at = ap (λ (z : DriveState). z.seen.honest) (sym (same_Some _ x at)) ∙ ap (λ (z : DriveView). z.honest) (same_Some w v is) ∙ honest
-begun_honest (w ∷ ws) (suc d) v is honest x at = begun_honest ws d v is honest x at
-
--- ---- a run
-
-pub promises_kept : {M : Type 0} (told : M → Option TapeRecords) → KeepsLegal → CallersAsk → TrueMediumStays → IsQueuedOrClaimed → ClaimerMoves → ClaimsNothingAfterEnd → LiveReadsAreDone → RunsKeepPromises told
-promises_kept told keeps callers stays queued moves closed reads site seen records turns each run media sound =
-    let fit = fitly told (begun_with site seen) (all_happenings turns) sound in
-    let legal = legal_histories keeps callers site seen records turns each run fit in
-    record {
-      legal = legal;
-      laws = legal_histories_hold site (after (begun_with site seen) (all_happenings turns)).history legal;
-      media = all_media told keeps callers stays (begun_with site seen) (all_happenings turns) sound (turns_timely site turns (subst (AllByRecursion _) (sym run.0) each)) tt media;
-      returned = returns_jobs queued moves site (after (begun_with site seen) (all_happenings turns)).history legal;
-      left = leaves_none closed queued site (after (begun_with site seen) (all_happenings turns)).history legal;
-      honest = λ tells d v is honest. read_rightly told tells reads d (begun_with site seen) (all_happenings turns) sound (begun_honest seen d v is honest);
-    }
+  pub all_media : (s : RunState) (hs : List Happening) → AreSound s hs → AllByRecursion IsTimely hs → IsLegal s.site s.history → AllTapesHaveMedia s → AllTapesHaveMedia (after s hs)
+  all_media s [] sound timely legal media = media
+  all_media s (h ∷ hs) sound timely legal media =
+      let lawful : IsLegal s.site (run_behind s h).history = happening_is_lawful keeps callers s h (asks_fit s h sound.0) timely.0 legal in
+      all_media (run_behind s h) hs sound.1 timely.1 (subst (λ (x : Site). IsLegal x (run_behind s h).history) (sym (run_behind-site s h)) lawful) (media_behind s h sound.0 timely.0 legal media)

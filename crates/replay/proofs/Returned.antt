@@ -3,7 +3,6 @@ use Rattle.std.proofs.Common.{◌≡◌, ℕ, inl, inr, Bool, true, false, ◌==
 use Rattle.std.specs.Prelude.{Option, Some, None, find}
 use Rattle.std.proofs.lemmas.Bool.{cases_Bool, eqb-true}
 use Rattle.std.proofs.lemmas.Option.{none-some}
-use Rattle.blob.specs.Records.{TapeRecords}
 use Rattle.cta_site.specs.declared.site.Site.{Site}
 use Rattle.cta_site.specs.Listed.{Listed}
 use Rattle.cta_model.specs.declared.answers.Answer.{Answer}
@@ -18,9 +17,11 @@ use Rattle.cta_model.specs.Mounts.{claimer_of, claims, has_job, is_open, open_mo
 use Rattle.cta_laws.specs.Claims.{claimer_after}
 use Rattle.cta_laws.specs.Jobs.{ClaimerMoves, IsQueuedOrClaimed}
 use Rattle.cta_laws.specs.Mounts.{ClaimsNothingAfterEnd}
-use Rattle.media.specs.Drives.{DriveView}
 use Rattle.history_laws.proofs.Held.{legal_histories_hold}
-use Rattle.replay.specs.Promises.{AllTapesHaveMedia, KeepsPromises, LeavesNoJob, ReturnsJobs}
+use Rattle.replay.specs.Outcome.{AreMade}
+use Rattle.replay.specs.Promises.{KeepsPromises, LeavesNoJob, ReturnsJobs}
+use Rattle.replay.specs.Steps.{Made}
+use Rattle.replay.proofs.TrueMedia.{first_have_media}
 
 legal_behind : (site : Site) (newer h : History) → IsLegal site (newer ++ h) → IsLegal site h
 legal_behind site [] h legal = legal
@@ -74,11 +75,11 @@ no_cut : (newer older : History) (e : Entry) → [] ≡ newer ++ e ∷ older →
 no_cut [] older e cut = let no : [] ≡ e ∷ older = cut in cc
 no_cut (x ∷ newer) older e cut = let no : [] ≡ x ∷ (newer ++ e ∷ older) = cut in cc
 
-pub none_kept : {M : Type 0} (told : M → Option TapeRecords) (site : Site) (seen : List DriveView) → AllTapesHaveMedia told site [] → KeepsPromises told site seen []
-none_kept told site seen media = record {
+pub none_kept : (tells : Bool) (site : Site) (made : Made) → AreMade tells site made → KeepsPromises tells site made []
+none_kept tells site made new = record {
   legal = tt;
   laws = legal_histories_hold site [] tt;
-  media = media;
+  media = first_have_media tells site made new.media;
   returned = λ newer older e m fault charged returned j cut asked named live. absurd (no_cut newer older e cut);
   left = λ newer older e m fault j cut asked live. absurd (no_cut newer older e cut);
   honest = λ tells d v is honest. tt;

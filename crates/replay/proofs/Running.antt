@@ -4,7 +4,7 @@ use Rattle.std.specs.Prelude.{map}
 use Rattle.std.specs.List.{AllByRecursion}
 use Rattle.std.proofs.lemmas.List.{map-append}
 use Rattle.std.proofs.lemmas.List.Concat.{flat_map-append}
-use Rattle.blob.specs.Records.{TapeRecords}
+use Rattle.blob.specs.Records.{MediumView}
 use Rattle.cta_site.specs.declared.site.Site.{Site}
 use Rattle.cta_site.specs.WellFormed.{IsWellFormed}
 use Rattle.cta_model.specs.Kept.{Kept, kept_after}
@@ -25,10 +25,11 @@ use Rattle.replay.specs.Seen.{SourceView, SinkView, World, unread}
 use Rattle.replay.specs.Script.{Record, OfLink, OfDrive, IsRecord, IsScriptCut, InLine, cut_bytes, whole_bytes, tail_bytes, tail_records, spelling}
 use Rattle.replay.specs.Run.{ScriptTurn, Happening, Answered, Stepped, record_of, links_turn, links_turns, happenings_of, all_happenings}
 use Rattle.replay.specs.Output.{after, event_keeps, run_behind}
-use Rattle.replay.specs.Promises.{AllTapesHaveMedia, AreSound}
-use Rattle.replay.specs.Steps.{RunState, begun_with, behind_row, row_at}
+use Rattle.replay.specs.Promises.{AreSound}
+use Rattle.replay.specs.Steps.{Made, RunState, begun_with, behind_row, row_at}
 use Rattle.replay.specs.Intake.{Took}
-use Rattle.replay.specs.Outcome.{AreNewDrives, Wrote, EndsScript, Finishes, AnswersRecord, Replays}
+use Rattle.replay.specs.Outcome.{AreMade, Wrote, EndsScript, Finishes, Replays}
+use Rattle.replay.specs.RecordTurns.{AnswersRecord}
 use Rattle.replay.specs.declared.status.Status.{Status}
 use Rattle.replay.specs.declared.status.Status.TheVariants.{NoMemory}
 use Rattle.replay.proofs.Taking.{Took-trans, Took-none}
@@ -38,16 +39,16 @@ use Rattle.replay.proofs.Behind.{EndsScript-behind, IsBefore, behind, whole_byte
 
 -- ---- the site stays
 
-pub kept_after-site : (k : Kept) (t : ℕ) (asks : Ask) (a : Answer) → (kept_after k t asks a).site ≡ k.site
-kept_after-site k t asks a = by_cases (is_accepted a) refl
+pub kept_after-site : (k : Kept) (t : ℕ) (asks : Ask) (a : Answer) (brought : Option MediumView) → (kept_after k t asks a brought).site ≡ k.site
+kept_after-site k t asks a brought = by_cases (is_accepted a) refl
   where
-    by_cases : (b : Bool) → b ≡ is_accepted a → (kept_after k t asks a).site ≡ k.site
+    by_cases : (b : Bool) → b ≡ is_accepted a → (kept_after k t asks a brought).site ≡ k.site
     by_cases true e = rw (← e) refl
     by_cases false e = rw (← e) refl
 
 kept_then-site : (k : Kept) (t : ℕ) (x : Asked) → (kept_then k t x).site ≡ k.site
 unfolding kept_then
-kept_then-site k t (Asks ask content) = kept_after-site k t ask _
+kept_then-site k t (Asks ask content) = kept_after-site k t ask _ None
 kept_then-site k t (Looks look) = refl
 kept_then-site k t (Replies reply) = refl
 
@@ -60,13 +61,13 @@ event_keeps-site k t Continues = refl
 event_keeps-site k t (Requests request) = request_keeps-site k t request
 event_keeps-site k t (Refuses refusal) = refl
 
-behind_row-site : (k : RunState) (drive moment : ℕ) (seen : DriveView) (r : Option Row) → (behind_row k drive moment seen r).site ≡ k.site
-behind_row-site k drive moment seen None = refl
-behind_row-site k drive moment seen (Some r) = refl
+behind_row-site : (k : RunState) (drive moment : ℕ) (seen : DriveView) (left : Option MediumView) (r : Option Row) → (behind_row k drive moment seen left r).site ≡ k.site
+behind_row-site k drive moment seen left None = refl
+behind_row-site k drive moment seen left (Some r) = refl
 
 pub run_behind-site : (k : RunState) (h : Happening) → (run_behind k h).site ≡ k.site
 run_behind-site k (Answered link moment exchange) = refl
-run_behind-site k (Stepped drive moment done seen) = behind_row-site k drive moment seen (row_at k drive done)
+run_behind-site k (Stepped drive moment done seen left) = behind_row-site k drive moment seen left (row_at k drive done)
 
 pub after-site : (k : RunState) (hs : List Happening) → (after k hs).site ≡ k.site
 after-site k [] = refl
@@ -74,33 +75,33 @@ after-site k (h ∷ hs) = after-site (run_behind k h) hs ∙ run_behind-site k h
 
 -- ---- what steps keep
 
-sound-append : {M : Type 0} (told : M → Option TapeRecords) (k : RunState) (xs ys : List Happening) → AreSound told k xs → AreSound told (after k xs) ys → AreSound told k (xs ++ ys)
-sound-append told k [] ys p q = q
-sound-append told k (x ∷ xs) ys p q = (p.0, sound-append told (run_behind k x) xs ys p.1 q)
+sound-append : (k : RunState) (xs ys : List Happening) → AreSound k xs → AreSound (after k xs) ys → AreSound k (xs ++ ys)
+sound-append k [] ys p q = q
+sound-append k (x ∷ xs) ys p q = (p.0, sound-append (run_behind k x) xs ys p.1 q)
 
-pub sound_behind : {M : Type 0} (told : M → Option TapeRecords) (k n : RunState) (xs ys : List Happening) → n ≡ after k xs → AreSound told k xs → AreSound told n ys → AreSound told k (xs ++ ys)
-sound_behind told k n xs ys e p q = sound-append told k xs ys p (subst (λ j. AreSound told j ys) e q)
+pub sound_behind : (k n : RunState) (xs ys : List Happening) → n ≡ after k xs → AreSound k xs → AreSound n ys → AreSound k (xs ++ ys)
+sound_behind k n xs ys e p q = sound-append k xs ys p (subst (λ j. AreSound j ys) e q)
 
 -- ---- a run
 
 -- from a to m so many whole records were read and answered, n is kept now, and the links stand for these records
-pub record Ran {M : Type 0} (told : M → Option TapeRecords) (links : Links) (k n : RunState) (a m : World) : Type 0 where
+pub record Ran (links : Links) (k n : RunState) (a m : World) : Type 0 where
   pub turns : List ScriptTurn
   pub each : AllByRecursion (IsRecord k.site) (map record_of turns)
   pub took : Took a.script m.script (whole_bytes k.site (map record_of turns))
   pub stands : StandFor links k.site.limits.file (links_turns turns)
-  pub sound : AreSound told k (all_happenings turns)
+  pub sound : AreSound k (all_happenings turns)
   pub wrote : Wrote k a.out m.out (all_happenings turns)
   pub keeps : n ≡ after k (all_happenings turns)
 
-pub Ran-none : {M : Type 0} (told : M → Option TapeRecords) (links : Links) (k : RunState) (a : World) → LinksStand links k.site.limits.file (λ link. []) (λ link. []) → Ran told links k k a a
-Ran-none told links k a stands = record { turns = []; each = tt; took = Took-none a.script; stands = (stands, tt); sound = tt; wrote = wrote_none k a.out; keeps = refl }
+pub Ran-none : (links : Links) (k : RunState) (a : World) → LinksStand links k.site.limits.file (λ link. []) (λ link. []) → Ran links k k a a
+Ran-none links k a stands = record { turns = []; each = tt; took = Took-none a.script; stands = (stands, tt); sound = tt; wrote = wrote_none k a.out; keeps = refl }
 
 pub AllByRecursion-append : {X : Type 0} (P : X → Type 0) (xs ys : List X) → AllByRecursion P xs → AllByRecursion P ys → AllByRecursion P (xs ++ ys)
 AllByRecursion-append P [] ys p q = q
 AllByRecursion-append P (x ∷ xs) ys p q = (p.0, AllByRecursion-append P xs ys p.1 q)
 
-pub same_site : {M : Type 0} {told : M → Option TapeRecords} {links : Links} {k n : RunState} {a m : World} (r : Ran told links k n a m) → n.site ≡ k.site
+pub same_site : {links : Links} {k n : RunState} {a m : World} (r : Ran links k n a m) → n.site ≡ k.site
 same_site {links} {k} r = ap (λ (j : RunState). j.site) r.keeps ∙ after-site k (all_happenings r.turns)
 
 records-push : (ts : List ScriptTurn) (t : ScriptTurn) → map record_of (ts ++ t ∷ []) ≡ map record_of ts ++ record_of t ∷ []
@@ -115,8 +116,8 @@ happened-push ts t = flat_map-append happenings_of ts (t ∷ []) ∙ ap (λ l. a
 turns-push : (ts : List ScriptTurn) (t : ScriptTurn) → links_turns (ts ++ t ∷ []) ≡ links_turns ts ++ links_turn t
 turns-push ts t = flat_map-append links_turn ts (t ∷ []) ∙ ap (λ l. links_turns ts ++ l) (append-nil (links_turn t))
 
-pub Ran-more : {M : Type 0} (told : M → Option TapeRecords) (links links' : Links) (k n now : RunState) (a m b : World) (r : Ran told links k n a m) → AnswersRecord told links' n now (links_turns r.turns) m b → Ran told links' k now a b
-Ran-more told links links' k n now a m b r x =
+pub Ran-more : (links links' : Links) (k n now : RunState) (a m b : World) (r : Ran links k n a m) → AnswersRecord links' n now (links_turns r.turns) m b → Ran links' k now a b
+Ran-more links links' k n now a m b r x =
     let site = same_site r in
     let records = map record_of r.turns in
     let bytes = ap (whole_bytes k.site) (records-push r.turns x.turn) ∙ whole_bytes-push k.site records (record_of x.turn) in
@@ -129,7 +130,7 @@ Ran-more told links links' k n now a m b r x =
           (AllByRecursion-append (IsRecord k.site) records (record_of x.turn ∷ []) r.each (is_record, tt));
       took = subst (Took a.script b.script) (sym bytes) (Took-trans r.took took);
       stands = subst (StandFor links' k.site.limits.file) (sym (turns-push r.turns x.turn)) (subst (λ s. StandFor links' s.limits.file (links_turns r.turns ++ links_turn x.turn)) site x.stands);
-      sound = subst (AreSound told k) (sym happened) (sound_behind told k n (all_happenings r.turns) (happenings_of x.turn) r.keeps r.sound x.sound);
+      sound = subst (AreSound k) (sym happened) (sound_behind k n (all_happenings r.turns) (happenings_of x.turn) r.keeps r.sound x.sound);
       wrote = subst (Wrote k a.out b.out) (sym happened) (wrote_behind k n a.out m.out b.out (all_happenings r.turns) (happenings_of x.turn) r.keeps r.wrote x.wrote);
       keeps = after-behind k n now (all_happenings r.turns) (happenings_of x.turn) r.keeps x.keeps ∙ ap (after k) (sym happened);
     }
@@ -139,9 +140,9 @@ pub spelling_positive : (site : Site) (r : Record) → 0 < length (spelling site
 spelling_positive site (OfLink f) = omega arith
 spelling_positive site (OfDrive drive moment) = omega arith
 
-module _ {M : Type 0} (told : M → Option TapeRecords) (follow : RunsFollow) where
-  pub Ran-ends : (links : Links) (k n : RunState) (a m b : World) (status : Status) (r : Ran told links k n a m) → a.script.faults ≤ m.script.faults → a.out.faults ≤ m.out.faults
-      → Finishes told n (links_turns r.turns) m b status → Finishes told k [] a b status
+module _ (follow : RunsFollow) where
+  pub Ran-ends : (links : Links) (k n : RunState) (a m b : World) (status : Status) (r : Ran links k n a m) → a.script.faults ≤ m.script.faults → a.out.faults ≤ m.out.faults
+      → Finishes n (links_turns r.turns) m b status → Finishes k [] a b status
   Ran-ends links k n a m b status r reads writes f =
       let site = same_site r in
       let records = map record_of r.turns in
@@ -167,17 +168,17 @@ module _ {M : Type 0} (told : M → Option TapeRecords) (follow : RunsFollow) wh
         brought = map-append record_of r.turns f.turns ∙ ap (λ l. records ++ l) f.brought ∙ sym (append_assoc records f.cut.whole (tail_records f.cut.tail));
         run = subst (IsRunBehind k.site.limits.file []) (sym (flat_map-append links_turn r.turns f.turns))
             ((follow k.site.limits.file [] (links_turns r.turns) (links_turns f.turns)).1 (r.stands.1, run));
-        sound = subst (AreSound told k) (sym (flat_map-append happenings_of r.turns f.turns)) (sound_behind told k n (all_happenings r.turns) (all_happenings f.turns) r.keeps r.sound f.sound);
+        sound = subst (AreSound k) (sym (flat_map-append happenings_of r.turns f.turns)) (sound_behind k n (all_happenings r.turns) (all_happenings f.turns) r.keeps r.sound f.sound);
         ends = subst (EndsScript status k a b (behind records f.cut)) (sym (flat_map-append happenings_of r.turns f.turns))
             (EndsScript-behind k n records (all_happenings r.turns) (all_happenings f.turns) a m b f.cut before status f.ends);
       }
 
 -- memory was wanted before a byte was taken
-pub wanted_first : {M : Type 0} (told : M → Option TapeRecords) (tells : Bool) (site : Site) (seen : List DriveView) (from : SourceView) (a : SinkView) → IsWellFormed site → AreNewDrives tells site seen → AllTapesHaveMedia told site [] → Replays told tells NoMemory site from from a a
-wanted_first told tells site seen from a valid drives media = record {
+pub wanted_first : (tells : Bool) (site : Site) (made : Made) (from : SourceView) (a : SinkView) → IsWellFormed site → AreMade tells site made → Replays tells NoMemory site from from a a
+wanted_first tells site made from a valid new = record {
   valid = valid;
-  seen = seen;
-  drives = drives;
+  made = made;
+  new = new;
   taken = 0;
   within = omega arith;
   finishes = record {
@@ -188,7 +189,7 @@ wanted_first told tells site seen from a valid drives media = record {
     brought = refl;
     run = tt;
     sound = tt;
-    ends = (tt, first_none (begun_with site seen) a []);
+    ends = (tt, first_none (begun_with site made) a []);
   };
-  promises = none_kept told site seen media;
+  promises = none_kept tells site made new;
 }

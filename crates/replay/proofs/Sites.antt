@@ -1,5 +1,5 @@
 -- The site that a site file tells.
-use Rattle.std.proofs.Common.{◌≡◌, ◌+◌, ◌≤◌, ℕ, inl, inr, List, length, false, Option, Some, None, Result, Ok, Err, refl, sym, ap, ◌∙◌, arith, subst}
+use Rattle.std.proofs.Common.{◌≡◌, ◌+◌, ◌≤◌, ℕ, inl, inr, List, length, Bool, false, Option, Some, None, Result, Ok, Err, refl, sym, ap, ◌∙◌, arith, subst}
 use Rattle.std.proofs.lemmas.Bool.{cases_Bool}
 use Rattle.std.proofs.lemmas.Bool.Decides.{nat_tests}
 use Rattle.std.specs.Prelude.{MatchResult, nat_le}
@@ -14,7 +14,8 @@ use Rattle.cta_site.specs.Numbering.{IsNumberedFrom}
 use Rattle.site_json.specs.File.{file_fault, file_of, fault_within, site_of}
 use Rattle.cta_model.specs.Kept.{Kept}
 use Rattle.replay.specs.Seen.{SourceView}
-use Rattle.replay.specs.SiteFile.{ArchiveMade, IsSiteOf, NoArchive, NoSite, SiteRead, site_fault, site_limit}
+use Rattle.replay.specs.SiteFile.{IsSiteOf, NoSite, site_fault, site_limit}
+use Rattle.replay.specs.SiteReading.{ArchiveMade, NoArchive, SiteRead}
 use Rattle.replay.specs.declared.status.Status.{Status}
 use Rattle.replay.specs.declared.status.Status.TheVariants.{Usage, Site as SiteRule, Script, ReadFault, WriteFault, NoMemory, TooLong, ListenFault}
 use Rattle.replay.specs.declared.status.Status.TheVariants as status
@@ -31,9 +32,9 @@ no_site TooLong bytes a b took at few h = h
 no_site ListenFault bytes a b took at few h = h
 
 -- an archive made of the whole site file
-pub site_read : (r : Result Kept Status) (bytes : List ℕ) (a b : SourceView) → Consumes a.left b.left bytes → IsAtEnd b.left → length bytes ≤ site_limit → ArchiveMade r bytes → SiteRead r a b
-site_read (Ok archive) bytes a b took at few h = ((bytes, took, at, h.0), h.1)
-site_read (Err s) bytes a b took at few h = no_site s bytes a b took at few h
+pub site_read : (tells : Bool) (r : Result Kept Status) (bytes : List ℕ) (a b : SourceView) → Consumes a.left b.left bytes → IsAtEnd b.left → length bytes ≤ site_limit → ArchiveMade tells r bytes → SiteRead tells r a b
+site_read tells (Ok archive) bytes a b took at few h = ((bytes, took, at, h.0), h.1)
+site_read tells (Err s) bytes a b took at few h = no_site s bytes a b took at few h
 
 -- too many bytes break rule 1
 pub too_long : (bytes : List ℕ) → site_limit + 1 ≤ length bytes → site_fault bytes ≡ Some (1, 0)

@@ -4,7 +4,7 @@ use Rattle.std.specs.Io.KnownBytes.{Consumes, IsAtEnd}
 use Rattle.outside.specs.Causes.{Rose}
 use Rattle.cta_site.specs.Faults.{first_fault}
 use Rattle.cta_site.specs.Numbering.{IsNumberedFrom}
-use Rattle.blob.specs.Records.{TapeRecords}
+use Rattle.blob.specs.Records.{MediumView}
 use Rattle.cta_site.specs.declared.site.Site.{Site}
 use Rattle.replay.specs.Seen.{SourceView}
 use Rattle.replay.specs.Outcome.{IsReadWhole, ReachesEnd}
@@ -41,15 +41,15 @@ by_site NoMemory file a b e kept calm h = refl
 by_site TooLong file a b e kept calm h = absurd h
 by_site ListenFault file a b e kept calm h = absurd h
 
-pub RunsWhole-from_runs : {M : Type 0} (told : M → Option TapeRecords) → ((file a b : Site) → first_fault file ≡ None → IsNumberedFrom file a → IsNumberedFrom file b → a ≡ b) → (tells : Bool) (status : Status) (words : List (List ℕ)) (a b : Handed) → Runs told tells status words a b → RunsWhole told tells status words a b
-RunsWhole-from_runs told one tells status words a b (inl (inl p, same)) = λ bytes site records rest form had is reaches no_site no_read no_write. absurd (p.0 form)
-RunsWhole-from_runs told one tells status words a b (inl (inr wanted, same)) = λ bytes site records rest form had is reaches no_site no_read no_write. inr wanted
-RunsWhole-from_runs told one tells status words a b (inr (form', inl p)) = λ bytes site records rest form had is reaches no_site no_read no_write.
+pub RunsWhole-from_runs : ((file a b : Site) → first_fault file ≡ None → IsNumberedFrom file a → IsNumberedFrom file b → a ≡ b) → (tells : Bool) (status : Status) (words : List (List ℕ)) (a b : Handed) → Runs tells status words a b → RunsWhole tells status words a b
+RunsWhole-from_runs one tells status words a b (inl (inl p, same)) = λ bytes site records rest form had is reaches no_site no_read no_write. absurd (p.0 form)
+RunsWhole-from_runs one tells status words a b (inl (inr wanted, same)) = λ bytes site records rest form had is reaches no_site no_read no_write. inr wanted
+RunsWhole-from_runs one tells status words a b (inr (form', inl p)) = λ bytes site records rest form had is reaches no_site no_read no_write.
     inr (by_site status bytes a.site b.site had is.kept no_site p.0)
-RunsWhole-from_runs told one tells status words a b (inr (form', inr (site', reads, replays))) = λ bytes site records rest form had is reaches no_site no_read no_write.
+RunsWhole-from_runs one tells status words a b (inr (form', inr (site', reads, replays))) = λ bytes site records rest form had is reaches no_site no_read no_write.
     let s = taken_site bytes reads.0 a.site.left b.site.left had reads.1 in
     let is' = subst (λ x. IsSiteOf x site') (s.1 reads.2) reads.3 in
     let same = one_site bytes site' site one is' is in
     let reaches' = subst (λ x. ReachesEnd x a.script.left records rest) (sym same) reaches in
-    subst (λ x. ((status ≡ Ok) × IsReadWhole told tells x records rest b.script a.out b.out) ⊎ (status ≡ NoMemory)) same
-    (RunsToEnd-from_replays told tells status site' a.script b.script a.out b.out replays records rest reaches' no_read no_write)
+    subst (λ x. ((status ≡ Ok) × IsReadWhole tells x records rest b.script a.out b.out) ⊎ (status ≡ NoMemory)) same
+    (RunsToEnd-from_replays tells status site' a.script b.script a.out b.out replays records rest reaches' no_read no_write)

@@ -12,7 +12,8 @@ use Rattle.conn.specs.declared.next.Next.{Next}
 use Rattle.replay.specs.Seen.{SinkView}
 use Rattle.replay.specs.Run.{Exchange, Happening, Answered, event_of, events_of, bare_exchanges, answered_on}
 use Rattle.replay.specs.Output.{HaveContents, FitsEvent, after, event_keeps, event_text, frame, run_behind, output_on, written_for}
-use Rattle.replay.specs.Outcome.{Wrote, WritesFirst, WritesFront, IsUnwritten, IsFramed, AnswersEvents}
+use Rattle.replay.specs.Outcome.{Wrote, WritesFirst, WritesFront}
+use Rattle.replay.specs.RecordTurns.{IsUnwritten, IsFramed, AnswersEvents}
 use Rattle.replay.specs.declared.output.Unwritten.{Unwritten}
 use Rattle.replay.specs.declared.output.Unwritten.TheVariants.{Broken, Wanting}
 

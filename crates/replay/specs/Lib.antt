@@ -10,8 +10,10 @@ pub mod Promises
 pub mod Hands
 pub mod Intake
 pub mod Outcome
+pub mod RecordTurns
 pub mod Desk
 pub mod StepRecords
 pub mod SiteFile
+pub mod SiteReading
 pub mod Top
 pub mod Laws

@@ -1,19 +1,19 @@
 -- What a run keeps, whichever calls of devices fail.
 use Rattle.std.specs.Prelude.{◌≡◌, ◌≢◌, ℕ, ◌<◌, ◌⊎◌, ◌++◌, [], ◌∷◌, length, List, slice_get, Option, Some, None, IsSome, Bool, true, false}
-use Rattle.blob.specs.Records.{TapeRecords}
+use Rattle.blob.specs.Records.{MediumView, medium_at}
 use Rattle.cta_site.specs.declared.site.Site.{Site}
 use Rattle.cta_site.specs.Listed.{Listed}
 use Rattle.cta_model.specs.declared.asks.Ask.TheVariants as ask
+use Rattle.cta_model.specs.declared.asks.Direction.{Direction}
 use Rattle.cta_model.specs.declared.asks.Fault.{Fault}
 use Rattle.cta_model.specs.declared.asks.Item.{Item}
 use Rattle.cta_model.specs.declared.asks.Job.{Job}
 use Rattle.cta_model.specs.declared.entries.Entry.{Entry}
 use Rattle.cta_model.specs.History.{History}
 use Rattle.cta_model.specs.Jobs.{is_live_job}
-use Rattle.cta_model.specs.Kept.{Kept}
 use Rattle.cta_model.specs.Legal.{IsLegal}
-use Rattle.cta_model.specs.Media.{IsTrueWhereTold}
-use Rattle.cta_model.specs.Mounts.{has_job}
+use Rattle.cta_model.specs.Media.{IsMediumOf}
+use Rattle.cta_model.specs.Mounts.{has_job, is_mounted}
 use Rattle.history_laws.specs.Holding.{HoldsLaws}
 use Rattle.cta_laws.specs.Jobs.{IsClaimed, IsQueued}
 use Rattle.media.specs.Drives.{DriveView}
@@ -22,23 +22,41 @@ use Rattle.drive_session.specs.declared.reports.Done.TheVariants as done
 use Rattle.drive_session.specs.declared.reports.ReadEnd.TheVariants as end
 use Rattle.drive_session.specs.declared.reports.StepLine.{StepLine}
 use Rattle.drive_session.specs.declared.reports.StepLine.TheVariants as line
+use Rattle.drive_session.specs.Fits.{IsMountAt}
 use Rattle.drive_session.specs.Lawful.{IsSaid}
-use Rattle.drive_session.specs.Steps.{NoMismatch}
+use Rattle.drive_session.specs.Steps.{HasGiven, NoMismatch}
 use Rattle.drive_session.specs.Table.{Phase, Reading, Row}
 use Rattle.replay.specs.Output.{after, run_behind}
 use Rattle.replay.specs.Run.{Answered, Happening, ScriptTurn, Stepped, all_happenings}
-use Rattle.replay.specs.Steps.{DriveState, HasCarriedOut, IsRowFit, RunState, begun_with, kept_by, kept_in, line_at, row_at}
+use Rattle.replay.specs.Steps.{DriveState, HasCarriedOut, IsRowFit, Made, RunState, begun_with, behind_row, kept_in, line_at, row_at}
 
 -- ---- media
 
--- media of this type always tell their records
-abbrev pub AlwaysTell : {M : Type 0} → (M → Option TapeRecords) → Type 0
-AlwaysTell {M = M} told = (m : M) → IsSome (told m)
+-- a tape that isn't mounted has its medium on the shelf
+pub record IsOnShelf (s : RunState) (v : ℕ) (m : MediumView) : Type 0 where
+  pub free : is_mounted s.history v ≡ false
+  pub place : medium_at s.shelf v ≡ Some m
 
--- each tape of the site has a medium that is true for the history where it tells its records: so each place of a file on the tape names a record that was flushed,
--- of the file's length and SHA-256
-abbrev pub AllTapesHaveMedia : {M : Type 0} → (M → Option TapeRecords) → Site → History → Type 0
-AllTapesHaveMedia {M = M} told site h = (v : ℕ) → v < length site.tapes.items → (m : M) × IsTrueWhereTold told h v m
+-- a tape that is mounted has its medium with the drive whose open mount that is
+pub record IsWithDrive (s : RunState) (v : ℕ) (m : MediumView) : Type 0 where
+  pub drive : ℕ
+  pub mount : ℕ
+  pub way : Direction
+  pub still : IsMountAt s.history drive mount way v
+  pub state : DriveState
+  pub at : slice_get s.drives drive ≡ Some state
+  pub has : state.medium ≡ Some m
+
+-- a tape has its medium, by its label, which is on the shelf or with a drive, and where it tells its records is true for the history: so each place of a file on the tape
+-- names a record that was flushed, of the file's length and SHA-256
+pub record HasMedium (s : RunState) (v : ℕ) : Type 0 where
+  pub medium : MediumView
+  pub is : IsMediumOf s.history v medium
+  pub place : IsOnShelf s v medium ⊎ IsWithDrive s v medium
+
+-- so has each tape of the site
+abbrev pub AllTapesHaveMedia : RunState → Type 0
+AllTapesHaveMedia s = (v : ℕ) → v < length s.site.tapes.items → HasMedium s v
 
 -- ---- jobs
 
@@ -84,32 +102,41 @@ ReadsDone s drive moment heard =
 
 -- ---- steps
 
--- a drive is honest: a read of it gives what the record holds, or fails
-abbrev pub IsHonestAt : RunState → ℕ → Type 0
-IsHonestAt s drive = (d : DriveState) → slice_get s.drives drive ≡ Some d → d.seen.honest ≡ true
+-- the medium of a drive, if it has one, tells its records
+abbrev pub IsTelling : Option MediumView → Type 0
+IsTelling None = Unit {0}
+IsTelling (Some m) = IsSome m.records
 
--- each tape has a true medium behind what a row asks
-abbrev pub HaveMediaBehind : {M : Type 0} → (M → Option TapeRecords) → Kept → ℕ → Option Row → Type 0
-HaveMediaBehind told kept moment None = Unit {0}
-HaveMediaBehind told kept moment (Some r) = AllTapesHaveMedia told kept.site (kept_by kept moment r.ask).history
+-- what a drive has read of its next item, where it has a medium: the item's content, or one that is told as a mismatch with its sum and the item's; and where the drive
+-- tells its plan and the medium its records, these are the item's bytes, altered exactly where the plan says so
+abbrev pub HasGivenNext : DriveState → Option MediumView → Option Done → Type 0
+HasGivenNext d None heard = Unit {0}
+HasGivenNext d (Some m) heard = HasGiven m d.seen (item_in d.phase) heard
 
--- what each step keeps: it asks what a session may ask; its line says what the device answered; each tape has a true medium behind it; and where media always tell, an
--- honest drive stays so and gives no mismatch
-pub record IsSoundStep {M : Type 0} (told : M → Option TapeRecords) (s : RunState) (drive moment : ℕ) (heard : Option Done) (seen : DriveView) : Type 0 where
+-- each tape has its medium behind what a row asks
+abbrev pub HaveMediaBehind : RunState → ℕ → ℕ → DriveView → Option MediumView → Option Row → Type 0
+HaveMediaBehind s drive moment seen left None = Unit {0}
+HaveMediaBehind s drive moment seen left (Some r) = AllTapesHaveMedia (behind_row s drive moment seen left (Some r))
+
+-- what each step keeps: it asks what a session may ask; its line says what the device answered; each tape has its medium behind it; what is read is told truly; a medium
+-- that tells still does; and of a medium that tells an honest drive, which stays so, gives no mismatch
+pub record IsSoundStep (s : RunState) (drive moment : ℕ) (heard : Option Done) (seen : DriveView) (left : Option MediumView) : Type 0 where
   pub fit : IsRowFit (kept_in s) (row_at s drive heard)
   pub said : (l : StepLine) → line_at s drive moment heard ≡ Some l → IsSaid l heard
-  pub media : HaveMediaBehind told (kept_in s) moment (row_at s drive heard)
-  pub honest : AlwaysTell told → IsHonestAt s drive → (seen.honest ≡ true) × NoMismatch heard
+  pub media : HaveMediaBehind s drive moment seen left (row_at s drive heard)
+  pub given : (d : DriveState) → slice_get s.drives drive ≡ Some d → HasGivenNext d d.medium heard
+  pub tells : (d : DriveState) → slice_get s.drives drive ≡ Some d → IsTelling d.medium → IsTelling left
+  pub honest : (d : DriveState) → slice_get s.drives drive ≡ Some d → IsTelling d.medium → d.seen.honest ≡ true → (seen.honest ≡ true) × NoMismatch heard
 
 -- what happens keeps it, if it is a step
-abbrev pub IsSound : {M : Type 0} → (M → Option TapeRecords) → RunState → Happening → Type 0
-IsSound told s (Answered link moment exchange) = Unit {0}
-IsSound told s (Stepped drive moment heard seen) = IsSoundStep told s drive moment heard seen
+abbrev pub IsSound : RunState → Happening → Type 0
+IsSound s (Answered link moment exchange) = Unit {0}
+IsSound s (Stepped drive moment heard seen left) = IsSoundStep s drive moment heard seen left
 
 -- all that happens keeps it
-abbrev pub AreSound : {M : Type 0} → (M → Option TapeRecords) → RunState → List Happening → Type 0
-AreSound told s [] = Unit {0}
-AreSound told s (h ∷ hs) = IsSound told s h × AreSound told (run_behind s h) hs
+abbrev pub AreSound : RunState → List Happening → Type 0
+AreSound s [] = Unit {0}
+AreSound s (h ∷ hs) = IsSound s h × AreSound (run_behind s h) hs
 
 -- ---- runs
 
@@ -122,19 +149,19 @@ pub record IsReadRight (s : RunState) (drive moment : ℕ) (heard : Option Done)
 -- so is what happens, if it is a step of this drive
 abbrev pub IsRight : ℕ → RunState → Happening → Type 0
 IsRight d s (Answered link moment exchange) = Unit {0}
-IsRight d s (Stepped drive moment heard seen) = drive ≡ d → IsReadRight s drive moment heard
+IsRight d s (Stepped drive moment heard seen left) = drive ≡ d → IsReadRight s drive moment heard
 
 -- in each step of this drive no mismatch is met
 abbrev pub ReadsRightly : ℕ → RunState → List Happening → Type 0
 ReadsRightly d s [] = Unit {0}
 ReadsRightly d s (h ∷ hs) = IsRight d s h × ReadsRightly d (run_behind s h) hs
 
--- what a run from its start keeps, whichever calls fail: its history is legal, and the laws hold of it; each tape has a true medium; jobs that a fault gives back are queued again, and a mount that
--- ends leaves no live job behind; and where media always tell, a drive that is honest at first meets no mismatch
-pub record KeepsPromises {M : Type 0} (told : M → Option TapeRecords) (site : Site) (seen : List DriveView) (turns : List ScriptTurn) : Type 0 where
-  pub legal : IsLegal site (after (begun_with site seen) (all_happenings turns)).history
-  pub laws : HoldsLaws site (after (begun_with site seen) (all_happenings turns)).history
-  pub media : AllTapesHaveMedia told site (after (begun_with site seen) (all_happenings turns)).history
-  pub returned : ReturnsJobs site (after (begun_with site seen) (all_happenings turns)).history
-  pub left : LeavesNoJob site (after (begun_with site seen) (all_happenings turns)).history
-  pub honest : AlwaysTell told → (d : ℕ) (v : DriveView) → slice_get seen d ≡ Some v → v.honest ≡ true → ReadsRightly d (begun_with site seen) (all_happenings turns)
+-- what a run from its start keeps, whichever calls fail: its history is legal, and the laws hold of it; each tape has its medium; jobs that a fault gives back are queued again, and a mount that
+-- ends leaves no live job behind; and over a bench that tells, a drive that is honest at first meets no mismatch
+pub record KeepsPromises (tells : Bool) (site : Site) (made : Made) (turns : List ScriptTurn) : Type 0 where
+  pub legal : IsLegal site (after (begun_with site made) (all_happenings turns)).history
+  pub laws : HoldsLaws site (after (begun_with site made) (all_happenings turns)).history
+  pub media : AllTapesHaveMedia (after (begun_with site made) (all_happenings turns))
+  pub returned : ReturnsJobs site (after (begun_with site made) (all_happenings turns)).history
+  pub left : LeavesNoJob site (after (begun_with site made) (all_happenings turns)).history
+  pub honest : tells ≡ true → (d : ℕ) (v : DriveView) → slice_get made.drives d ≡ Some v → v.honest ≡ true → ReadsRightly d (begun_with site made) (all_happenings turns)

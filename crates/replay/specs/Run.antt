@@ -4,6 +4,7 @@ use Rattle.std.specs.List.{flat_map}
 use Rattle.cta_site.specs.declared.site.Site.{Site}
 use Rattle.conn.specs.Cut.{Event}
 use Rattle.drive_session.specs.declared.reports.Done.{Done}
+use Rattle.blob.specs.Records.{MediumView}
 use Rattle.media.specs.Drives.{DriveView}
 use Rattle.links.specs.Run.{Turn, IsRun}
 use Rattle.replay.specs.Script.{Record, OfLink, OfDrive, feed}
@@ -25,15 +26,16 @@ events_of exchanges = map event_of exchanges
 abbrev pub bare_exchanges : List Event → List Exchange
 bare_exchanges events = map (λ e. record { event = e; content = None }) events
 
--- a record and what it brings about: bytes complete events on their link, and in a step of a drive its device answers so, if a call is made, and is then seen so
+-- a record and what it brings about: bytes complete events on their link, and in a step of a drive its device answers so, if a call is made, is then seen so, and leaves the
+-- medium of its mount so
 pub data ScriptTurn : Type 0 where
   OnLink : (link moment : ℕ) (bytes : List ℕ) (exchanges : List Exchange) → ScriptTurn
-  OnDrive : (drive moment : ℕ) (done : Option Done) (seen : DriveView) → ScriptTurn
+  OnDrive : (drive moment : ℕ) (done : Option Done) (seen : DriveView) (left : Option MediumView) → ScriptTurn
 
 -- the record of a turn
 abbrev pub record_of : ScriptTurn → Record
 record_of (OnLink link moment bytes exchanges) = OfLink (feed link moment bytes)
-record_of (OnDrive drive moment _ _) = OfDrive drive moment
+record_of (OnDrive drive moment _ _ _) = OfDrive drive moment
 
 -- the turn of a link, by its parts
 abbrev pub turn_with : ℕ → ℕ → List ℕ → List Event → Turn
@@ -42,7 +44,7 @@ turn_with link moment bytes events = record { link = link; moment = moment; byte
 -- the turn of the links that a turn of the script is, if it is one
 abbrev pub links_turn : ScriptTurn → List Turn
 links_turn (OnLink link moment bytes exchanges) = turn_with link moment bytes (events_of exchanges) ∷ []
-links_turn (OnDrive _ _ _ _) = []
+links_turn (OnDrive _ _ _ _ _) = []
 
 -- the turns of the links among those of the script
 abbrev pub links_turns : List ScriptTurn → List Turn
@@ -51,7 +53,7 @@ links_turns turns = flat_map links_turn turns
 -- what happens in a run: an event of a link is answered, or a drive makes a step
 pub data Happening : Type 0 where
   Answered : (link moment : ℕ) (exchange : Exchange) → Happening
-  Stepped : (drive moment : ℕ) (done : Option Done) (seen : DriveView) → Happening
+  Stepped : (drive moment : ℕ) (done : Option Done) (seen : DriveView) (left : Option MediumView) → Happening
 
 -- exchanges on a link, at a moment
 abbrev pub answered_on : ℕ → ℕ → List Exchange → List Happening
@@ -60,7 +62,7 @@ answered_on link moment exchanges = map (Answered link moment) exchanges
 -- what happens in a turn
 abbrev pub happenings_of : ScriptTurn → List Happening
 happenings_of (OnLink link moment bytes exchanges) = answered_on link moment exchanges
-happenings_of (OnDrive drive moment done seen) = Stepped drive moment done seen ∷ []
+happenings_of (OnDrive drive moment done seen left) = Stepped drive moment done seen left ∷ []
 
 -- what happens in turns, in order
 abbrev pub all_happenings : List ScriptTurn → List Happening
@@ -70,19 +72,19 @@ all_happenings turns = flat_map happenings_of turns
 abbrev pub IsScriptRun : Site → List Record → List ScriptTurn → Type 0
 IsScriptRun site records turns = (map record_of turns ≡ records) × IsRun site.limits.file (links_turns turns)
 
--- what a turn has from outside: the contents that go out, in the order of its events; or what the device has answered, and how it is seen then
+-- what a turn has from outside: the contents that go out, in the order of its events; or what the device has answered
 pub data FromOutside : Type 0 where
   Contents : List (Option (List ℕ)) → FromOutside
-  Device : Option Done → DriveView → FromOutside
+  Device : Option Done → FromOutside
 
 abbrev pub from_outside : ScriptTurn → FromOutside
 from_outside (OnLink link moment bytes exchanges) = Contents (map (λ x. x.content) exchanges)
-from_outside (OnDrive drive moment done seen) = Device done seen
+from_outside (OnDrive drive moment done seen left) = Device done
 
 -- what happens on a link
 abbrev pub happening_on : ℕ → Happening → List Happening
 happening_on link (Answered l moment exchange) = if l == link then Answered l moment exchange ∷ [] else []
-happening_on link (Stepped _ _ _ _) = []
+happening_on link (Stepped _ _ _ _ _) = []
 
 -- what happens on a link, of all that happens
 abbrev pub happenings_on : ℕ → List Happening → List Happening

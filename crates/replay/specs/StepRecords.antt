@@ -3,7 +3,7 @@ use Rattle.std.specs.Prelude.{◌≡◌, ℕ, ◌⊎◌, List, Option, None, Som
 use Rattle.std.specs.Io.KnownBytes.{Appends}
 use Rattle.outside.specs.Causes.{Rose}
 use Rattle.outside.specs.Streams.{AppendsFront}
-use Rattle.blob.specs.Records.{TapeRecords}
+use Rattle.blob.specs.Records.{MediumView}
 use Rattle.media.specs.Drives.{DriveView}
 use Rattle.drive_session.specs.declared.reports.Done.{Done}
 use Rattle.replay.specs.Output.{run_behind, written_for}
@@ -26,30 +26,32 @@ abbrev pub IsPut : {T : Type 0} → Result T Unwritten → SinkView → SinkView
 IsPut r a b line = MatchResult r (λ _. Appends a.written b.written line) (λ why. NotPut why a b line)
 
 -- a step was carried out, and its line was written
-pub record IsWrittenStep {M : Type 0} (told : M → Option TapeRecords) (old new : RunState) (drive moment : ℕ) (a b : SinkView) : Type 0 where
+pub record IsWrittenStep (old new : RunState) (drive moment : ℕ) (a b : SinkView) : Type 0 where
   pub done : Option Done
   pub seen : DriveView
-  pub is : IsStepOf old drive moment done seen
-  pub sound : IsSoundStep told old drive moment done seen
-  pub keeps : new ≡ run_behind old (Stepped drive moment done seen)
-  pub wrote : Appends a.written b.written (written_for old (Stepped drive moment done seen))
+  pub left : Option MediumView
+  pub is : IsStepOf old drive moment done seen left
+  pub sound : IsSoundStep old drive moment done seen left
+  pub keeps : new ≡ run_behind old (Stepped drive moment done seen left)
+  pub wrote : Appends a.written b.written (written_for old (Stepped drive moment done seen left))
 
 -- a step was carried out, and its line was not written
-pub record IsUnwrittenStep {M : Type 0} (told : M → Option TapeRecords) (why : Unwritten) (old : RunState) (drive moment : ℕ) (a b : SinkView) : Type 0 where
+pub record IsUnwrittenStep (why : Unwritten) (old : RunState) (drive moment : ℕ) (a b : SinkView) : Type 0 where
   pub done : Option Done
   pub seen : DriveView
-  pub is : IsStepOf old drive moment done seen
-  pub sound : IsSoundStep told old drive moment done seen
-  pub not_put : NotPut why a b (written_for old (Stepped drive moment done seen))
+  pub left : Option MediumView
+  pub is : IsStepOf old drive moment done seen left
+  pub sound : IsSoundStep old drive moment done seen left
+  pub not_put : NotPut why a b (written_for old (Stepped drive moment done seen left))
 
 -- how a script ends in a step: memory was wanted for it; or its line was not written
-abbrev pub EndsInStep : {M : Type 0} → (M → Option TapeRecords) → Status → RunState → ℕ → ℕ → SinkView → SinkView → Type 0
-EndsInStep told status old drive moment a b =
+abbrev pub EndsInStep : Status → RunState → ℕ → ℕ → SinkView → SinkView → Type 0
+EndsInStep status old drive moment a b =
     ((status ≡ NoMemory) × (b ≡ a))
-    ⊎ (((status ≡ WriteFault) × IsUnwrittenStep told Broken old drive moment a b)
-    ⊎ ((status ≡ NoMemory) × IsUnwrittenStep told Wanting old drive moment a b))
+    ⊎ (((status ≡ WriteFault) × IsUnwrittenStep Broken old drive moment a b)
+    ⊎ ((status ≡ NoMemory) × IsUnwrittenStep Wanting old drive moment a b))
 
 -- a step was carried out and its line written, or the script ended in it
-abbrev pub HasStepped : {M : Type 0} → (M → Option TapeRecords) → Option Status → RunState → RunState → ℕ → ℕ → SinkView → SinkView → Type 0
-HasStepped told None old new drive moment a b = IsWrittenStep told old new drive moment a b
-HasStepped told (Some status) old new drive moment a b = EndsInStep told status old drive moment a b
+abbrev pub HasStepped : Option Status → RunState → RunState → ℕ → ℕ → SinkView → SinkView → Type 0
+HasStepped None old new drive moment a b = IsWrittenStep old new drive moment a b
+HasStepped (Some status) old new drive moment a b = EndsInStep status old drive moment a b

@@ -1,11 +1,13 @@
 -- Steps of drives: what each asks of the archive, what is kept behind it, and its line.
 use Rattle.std.specs.Prelude.{◌≡◌, ◌≢◌, ℕ, List, [], ◌++◌, map, codes, decimal, slice_get, slice_set, Option, Some, None, option_map, Bool, true, false}
+use Rattle.blob.specs.Records.{MediumView, medium_at}
 use Rattle.cta_site.specs.declared.site.Site.{Site}
 use Rattle.cta_site.specs.Lookups.{vid_of}
 use Rattle.cta_model.specs.declared.answers.Answer.{Answer}
 use Rattle.cta_model.specs.declared.answers.Answer.TheVariants as answer
 use Rattle.cta_model.specs.declared.answers.Refusal.TheVariants as refusal
 use Rattle.cta_model.specs.declared.asks.Ask.{Ask}
+use Rattle.cta_model.specs.declared.asks.Ask.TheVariants as ask
 use Rattle.cta_model.specs.declared.asks.Direction.{Direction}
 use Rattle.cta_model.specs.declared.asks.Direction.TheVariants as direction
 use Rattle.cta_model.specs.History.{History}
@@ -19,34 +21,45 @@ use Rattle.drive_session.specs.declared.reports.ReadEnd.TheVariants as end
 use Rattle.drive_session.specs.declared.reports.StepLine.{StepLine}
 use Rattle.drive_session.specs.declared.reports.StepLine.TheVariants as line
 use Rattle.drive_session.specs.Answers.{is_memory, said}
-use Rattle.drive_session.specs.Steps.{HasDone}
+use Rattle.drive_session.specs.Steps.{HasDone, LeavesMedium, item_written}
 use Rattle.drive_session.specs.Table.{Free, Phase, Row, line_by, phase_after, row_of}
 use Rattle.replay.specs.Line.{drive_name}
 
 -- ---- what a run has come to
 
--- where a drive stands: the phase of its session, and how the drive is seen
+-- where a drive stands: the phase of its session, how the drive is seen, and the medium of its mount, none where it has no mount
 pub record DriveState : Type 0 where
   pub phase : Phase
   pub seen : DriveView
+  pub medium : Option MediumView
 
--- a site, the history that an archive of it has kept, and where each of its drives stands, by number
+-- a site, the history that an archive of it has kept, the shelf (by tape its medium, none while a drive has it), and where each drive stands, by number
 pub record RunState : Type 0 where
   pub site : Site
   pub history : History
+  pub shelf : List (Option MediumView)
   pub drives : List DriveState
 
 -- what the archive has kept
 abbrev pub kept_in : RunState → Kept
-kept_in s = record { site = s.site; history = s.history }
+kept_in s = record { site = s.site; history = s.history; shelf = s.shelf }
 
 -- the archive has kept this since
 abbrev pub with_kept : RunState → Kept → RunState
-with_kept s kept = record s { history = kept.history }
+with_kept s kept = record s { history = kept.history; shelf = kept.shelf }
 
--- nothing has happened yet: no history, and each drive, seen so, is free
-abbrev pub begun_with : Site → List DriveView → RunState
-begun_with site seen = record { site = site; history = []; drives = map (λ v. record { phase = Free; seen = v }) seen }
+-- what a bench has made for a site: the medium of each tape, and the drives, each by number
+pub record Made : Type 0 where
+  pub media : List MediumView
+  pub drives : List DriveView
+
+-- a drive that is seen so, free
+abbrev pub free_drive : DriveView → DriveState
+free_drive v = record { phase = Free; seen = v; medium = None }
+
+-- nothing has happened yet: no history, each medium is on the shelf, and each drive is free
+abbrev pub begun_with : Site → Made → RunState
+begun_with site made = record { site = site; history = []; shelf = map Some made.media; drives = map free_drive made.drives }
 
 -- ---- a step
 
@@ -82,18 +95,30 @@ abbrev pub phase_behind : Row → Option Answer → Phase
 phase_behind r None = r.phase
 phase_behind r (Some a) = phase_after r.asked r.phase a
 
--- what is kept behind what a row asks
-abbrev pub kept_by : Kept → ℕ → Option Ask → Kept
-kept_by kept moment None = kept
-kept_by kept moment (Some k) = kept_after kept moment k (answer_of kept.site kept.history moment k)
+-- what is kept behind what a row asks, where the device has left this medium
+abbrev pub kept_by : Kept → ℕ → Option MediumView → Option Ask → Kept
+kept_by kept moment left None = kept
+kept_by kept moment left (Some k) = kept_after kept moment k (answer_of kept.site kept.history moment k) left
 
--- the run behind a step with this row, where the drive is seen so
-abbrev pub behind_row : RunState → ℕ → ℕ → DriveView → Option Row → RunState
-behind_row s drive moment seen None = s
-behind_row s drive moment seen (Some r) =
+-- the medium that a drive has behind what it asked: a Next that mounted a tape took the medium from its place on the shelf, an End brought the drive's back, and all else
+-- leaves it where it is
+abbrev pub medium_behind : List (Option MediumView) → Option MediumView → Option Ask → Option Answer → Option MediumView
+medium_behind shelf left (Some (ask.Next d)) (Some (answer.Mounted m way v)) = medium_at shelf v
+medium_behind shelf left (Some (ask.End m fault)) a = None
+medium_behind shelf left k a = left
+
+-- the run behind a step with this row, where the drive is seen so and its medium was left so
+abbrev pub behind_row : RunState → ℕ → ℕ → DriveView → Option MediumView → Option Row → RunState
+behind_row s drive moment seen left None = s
+behind_row s drive moment seen left (Some r) =
     record s {
-      history = (kept_by (kept_in s) moment r.ask).history;
-      drives = slice_set s.drives drive (record { phase = phase_behind r (answer_to (kept_in s) moment r); seen = seen });
+      history = (kept_by (kept_in s) moment left r.ask).history;
+      shelf = (kept_by (kept_in s) moment left r.ask).shelf;
+      drives = slice_set s.drives drive (record {
+        phase = phase_behind r (answer_to (kept_in s) moment r);
+        seen = seen;
+        medium = medium_behind s.shelf left r.ask (answer_to (kept_in s) moment r);
+      });
     }
 
 -- ---- which steps are carried out
@@ -124,9 +149,15 @@ abbrev pub HasAnsweredSo : Option DriveState → Option Done → DriveView → T
 HasAnsweredSo None _ seen = ⊥
 HasAnsweredSo (Some d) done seen = HasDone d.seen seen done
 
--- a step that is carried out: its device has answered so, and it has a row that is carried out
-pub record IsStepOf (s : RunState) (drive moment : ℕ) (done : Option Done) (seen : DriveView) : Type 0 where
+-- it has left the medium of its mount so
+abbrev pub HasLeftSo : Option DriveState → Option Done → Option MediumView → Type 0
+HasLeftSo None _ left = ⊥
+HasLeftSo (Some d) done left = LeavesMedium done (item_written d.phase) d.medium left
+
+-- a step that is carried out: its device has answered so and left its medium so, and it has a row that is carried out
+pub record IsStepOf (s : RunState) (drive moment : ℕ) (done : Option Done) (seen : DriveView) (left : Option MediumView) : Type 0 where
   pub device : HasAnsweredSo (slice_get s.drives drive) done seen
+  pub medium : HasLeftSo (slice_get s.drives drive) done left
   pub row : HasCarriedOut (kept_in s) moment (row_at s drive done)
 
 -- the ask of a step, where it has a row, is one that a session may make

@@ -1,13 +1,14 @@
 // A desk: an archive behind its routes, and the drives of its site with their sessions.
-ghost use Rattle.std.specs.Prelude.{◌≡◌, ◌≤◌, ◌<◌, None, true, false, map, length, IfOk, OnOk};
+ghost use Rattle.std.specs.Prelude.{◌≡◌, ◌≤◌, ◌<◌, None, Some, true, false, map, length, IfOk, OnOk};
 ghost use Rattle.cta_model.specs.Bare.{bare_ask};
 ghost use Rattle.cta_model.specs.Legal.{IsLegal, greatest_moment};
 ghost use Rattle.drive_session.specs.Answers.{is_asking, is_memory};
 ghost use Rattle.drive_session.specs.Fits.{FitsOpen};
 ghost use Rattle.tape_routes.specs.Answering.{IsReplyTo, request_keeps};
+ghost use Rattle.drive_session.specs.Steps.{medium_left};
 ghost use Rattle.replay.specs.Desk.{AreFree, AreManned, Begins, IsAskedOf, IsIdleFor, IsManned, IsTurn, StepsOn};
 ghost use Rattle.replay.specs.Outcome.{AreNewDrives};
-ghost use Rattle.replay.specs.Output.{fresh};
+ghost use Rattle.replay.specs.SiteReading.{IsOpened};
 ghost use Rattle.replay.specs.Steps.{kept_in, with_kept};
 
 use crate::service::Service;
@@ -38,7 +39,7 @@ impl<D: TapeDrive + Drop> Model for Desk<D> {
 
     ghost Value = { DeskView };
 
-    ghost view = { λ d. desk_of d.service.archive d.sessions.items (map D.seen d.drives.items) d.ready };
+    ghost view = { λ d. desk_of D.Medium.told d.service.archive d.sessions.items (map D.seen d.drives.items) d.ready };
 
     ghost invariant = { λ d. d.ready ≡ true → AreManned D.Medium.told d.service.archive.site d.service.archive.history d.sessions.items (map D.seen d.drives.items) };
 }
@@ -111,7 +112,7 @@ fn answered<D: TapeDrive>(
     requires open { is_asking session.old.asked ≡ true }
     requires idle { IsIdleFor archive.old.history session.old.number (bare_ask asked.0) }
     requires kept { session.old.kept ≡ None }
-    ensures answered { IfOk result (λ l. IsAskedOf D.Medium.told archive.old archive.new session.old session.new moment (bare_ask asked.0) l) }
+    ensures answered { IfOk result (λ l. IsAskedOf D.Medium.told archive.old archive.new session.old session.new moment (bare_ask asked.0) (medium_left D.Medium.told session.old.state (Some asked)) l) }
 {
     asks_are_fit::<D>();
     asks_are_known::<D>();
@@ -162,10 +163,9 @@ impl<D: TapeDrive + Drop> Desk<D> {
         archive: Archive<D::Medium>,
         bench: &mut B,
     ) -> Result<Desk<D>, NoMemory>
-        requires { archive ≡ fresh archive.site }
-        ensures { IfOk result (λ desk. Begins D.Medium.told (B.tells bench.old) archive.site desk) }
+        requires { IsOpened (B.tells bench.old) archive }
+        ensures { IfOk result (λ desk. Begins (B.tells bench.old) archive.site desk) }
     {
-        archive.keeps_media();
         match parts_for(alloc, archive.site(), bench) {
             Ok(
                 DeskParts {
@@ -243,7 +243,7 @@ impl<D: TapeDrive + Drop> Desk<D> {
         requires drive { drive < length self.old.run.site.drives.items }
         requires moment { moment ≤ greatest_moment }
         requires ready { self.old.ready ≡ true }
-        ensures stepped { IfOk result (λ l. StepsOn D.Medium.told self.old.run self.new.run drive moment l) }
+        ensures stepped { IfOk result (λ l. StepsOn self.old.run self.new.run drive moment l) }
         ensures ready { OnOk result (self.new.ready ≡ true) }
     {
         session_stays::<D>();

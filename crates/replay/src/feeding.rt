@@ -9,7 +9,7 @@ ghost use Rattle.replay.specs.Line.{IsHttp};
 ghost use Rattle.replay.specs.Intake.{budget};
 ghost use Rattle.replay.specs.Run.{turn_with};
 ghost use Rattle.replay.specs.Seen.{script_view, sink_view, world};
-ghost use Rattle.replay.specs.Outcome.{Feeds, Delivers};
+ghost use Rattle.replay.specs.RecordTurns.{Feeds, Delivers};
 
 use crate::front::Front;
 use crate::intake::{BUDGET, Stop, take_piece};

@@ -1,8 +1,8 @@
 // What a script meets: a desk with an archive and its drives, and the links.
-ghost use Rattle.std.specs.Prelude.{◌≡◌, [], IfOk};
+ghost use Rattle.std.specs.Prelude.{[], IfOk};
 ghost use Rattle.links.specs.Standing.{LinksStand};
 ghost use Rattle.replay.specs.Desk.{Begins};
-ghost use Rattle.replay.specs.Output.{fresh};
+ghost use Rattle.replay.specs.SiteReading.{IsOpened};
 
 use crate::desk::Desk;
 use archive::Archive;
@@ -25,8 +25,8 @@ impl<D: TapeDrive + Drop> Front<D> {
         archive: Archive<D::Medium>,
         bench: &mut B,
     ) -> Result<Front<D>, NoMemory>
-        requires { archive ≡ fresh archive.site }
-        ensures begins { IfOk result (λ front. Begins D.Medium.told (B.tells bench.old) archive.site front.desk) }
+        requires { IsOpened (B.tells bench.old) archive }
+        ensures begins { IfOk result (λ front. Begins (B.tells bench.old) archive.site front.desk) }
         ensures links { IfOk result (λ front. LinksStand front.links archive.site.limits.file (λ link. []) (λ link. [])) }
     {
         let links = match Links::new(alloc, archive.site().limits().file) {

@@ -8,7 +8,6 @@ use cta_laws::{claimer_moves, claims_nothing_after_end, is_queued_or_claimed, tr
 use cta_model::histories_stay_legal;
 use cta_site::valid_is_well_formed;
 use links::one_run;
-use media::TapeDrive;
 use tape_routes::callers_ask;
 
 /// The bytes of a script that was cut somewhere are read in one way: for a valid site, two cuts with the same bytes are
@@ -51,13 +50,13 @@ pub fn runs_keep_legal_histories()
     callers_ask();
 }
 
-/// A run of records from media that are true for the empty history, in which each step is sound, keeps what a run keeps whichever
-/// calls of devices fail: its history is legal; each tape has a medium that is true for it, where it tells its records; each job that a
-/// Failed names, and that has not ended, stands in its queue again right behind it; behind the End of a mount each live job stands in its
-/// queue, or another open mount claims it; and where media always tell, a drive that is honest meets no mismatch, and what it reads of a
-/// live job is done unless the device fails. A law, which does nothing when it runs.
-pub fn runs_keep_promises<D: TapeDrive>()
-    ensures { RunsKeepPromises D.Medium.told }
+/// A run of records over drives and media that a bench has made, in which each step is sound, keeps what a run keeps whichever calls of
+/// devices fail: its history is legal; each tape has its medium, on the shelf or with the drive that has it mounted, which is true for it
+/// where it tells its records; each job that a Failed names, and that has not ended, stands in its queue again right behind it; behind the
+/// End of a mount each live job stands in its queue, or another open mount claims it; and over a bench that tells, a drive that is honest
+/// meets no mismatch, and what it reads of a live job is done unless the device fails. A law, which does nothing when it runs.
+pub fn runs_keep_promises()
+    ensures { RunsKeepPromises }
 {
     histories_stay_legal();
     callers_ask();

@@ -1,7 +1,7 @@
 // An archive that has kept nothing yet, with the media that a bench makes.
-ghost use Rattle.std.specs.Prelude.{◌≡◌, IfOk};
-ghost use Rattle.archive.specs.Kept.{AreFirstMedia};
-ghost use Rattle.replay.specs.Output.{fresh};
+ghost use Rattle.std.specs.Prelude.{◌≡◌, IfOk, map};
+ghost use Rattle.replay.specs.Outcome.{AreNewMedia};
+ghost use Rattle.replay.specs.SiteReading.{IsOpened};
 
 use archive::Archive;
 use cta_model::NoMemory;
@@ -10,13 +10,13 @@ use media::{Bench, TapeDrive};
 use std::alloc::Global;
 use std::hash::RandomState;
 
-// A medium for each tape of a site, in order of their numbers, none with a record where it tells them.
+// The medium of each tape of a site, in order of their numbers, as the bench makes them.
 fn media_of<D: TapeDrive, B: Bench<D>>(
     alloc: Global,
     site: &ValidSite,
     bench: &mut B,
 ) -> Result<Vec<D::Medium>, NoMemory>
-    ensures media { IfOk result (λ media. AreFirstMedia D.Medium.told site.now media.items) }
+    ensures media { IfOk result (λ media. AreNewMedia (B.tells bench.old) site.now (map D.Medium.told media.items)) }
     ensures tells { B.tells bench.new ≡ B.tells bench.old }
 {
     site.keeps_rules();
@@ -35,7 +35,8 @@ pub(crate) fn open_archive<D: TapeDrive, B: Bench<D>>(
     bench: &mut B,
     keys: RandomState,
 ) -> Result<Archive<D::Medium>, NoMemory>
-    ensures archive { IfOk result (λ archive. archive ≡ fresh site) }
+    ensures site { IfOk result (λ archive. archive.site ≡ site) }
+    ensures opened { IfOk result (λ archive. IsOpened (B.tells bench.old) archive) }
     ensures tells { B.tells bench.new ≡ B.tells bench.old }
 {
     let media = media_of(alloc, &site, bench)?;

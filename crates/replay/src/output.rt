@@ -10,7 +10,7 @@ ghost use Rattle.conn.specs.Cut.{Requests};
 ghost use Rattle.conn.specs.Stands.{next_events, given_by};
 ghost use Rattle.replay.specs.Seen.{sink_view};
 ghost use Rattle.replay.specs.Output.{frame};
-ghost use Rattle.replay.specs.Outcome.{AnswersEvents, IsFramed};
+ghost use Rattle.replay.specs.RecordTurns.{AnswersEvents, IsFramed};
 ghost use Rattle.replay.specs.declared.output.Unwritten.TheVariants.{Broken};
 
 use crate::desk::Desk;

@@ -6,7 +6,7 @@ ghost use Rattle.replay.specs.Intake.{budget};
 ghost use Rattle.replay.specs.Line.{http_text, IsDriveStep, IsHttp};
 ghost use Rattle.replay.specs.Script.{ended};
 ghost use Rattle.replay.specs.Seen.{script_view, sink_view, world};
-ghost use Rattle.replay.specs.Outcome.{Turns, TurnsAfter, TookLf, stop_status, unwritten_status};
+ghost use Rattle.replay.specs.RecordTurns.{Turns, TurnsAfter, TookLf, stop_status, unwritten_status};
 ghost use Rattle.replay.specs.StepRecords.{HasStepped};
 
 use crate::feeding::{FeedEnd, feed_record};
@@ -73,7 +73,7 @@ fn http_record<S: Source, K: Sink, D: TapeDrive + Drop>(
     requires within { taken.old ≤ budget }
     requires buffer { 0 < length buffer.old }
     ensures turns { (before : List Turn) → StandFor front.old.links front.old.desk.run.site.limits.file before
-        → TurnsAfter D.Medium.told result front.new.links front.old.desk.run front.new.desk.run before (ended (http_text line.link line.moment line.len))
+        → TurnsAfter result front.new.links front.old.desk.run front.new.desk.run before (ended (http_text line.link line.moment line.len))
         (world (script_view (S.left script.old) taken.old (S.faults script.old)) (sink_view (K.written out.old) (K.faults out.old)))
         (world (script_view (S.left script.new) taken.new (S.faults script.new)) (sink_view (K.written out.new) (K.faults out.new))) }
     ensures ready { IfNone result (front.new.desk.ready ≡ front.old.desk.ready) }
@@ -98,7 +98,7 @@ fn step_record<K: Sink, D: TapeDrive + Drop>(
 ) -> Option<Status>
     requires step { IsDriveStep front.old.desk.run.site drive moment }
     requires ready { front.old.desk.ready ≡ true }
-    ensures stepped { HasStepped D.Medium.told result front.old.desk.run front.new.desk.run drive moment
+    ensures stepped { HasStepped result front.old.desk.run front.new.desk.run drive moment
         (sink_view (K.written out.old) (K.faults out.old)) (sink_view (K.written out.new) (K.faults out.new)) }
     ensures links { front.new.links ≡ front.old.links }
     ensures ready { IfNone result (front.new.desk.ready ≡ true) }
@@ -126,7 +126,7 @@ pub(crate) fn one_record<S: Source, K: Sink, D: TapeDrive + Drop>(
     requires buffer { 0 < length buffer.old }
     requires ready { front.old.desk.ready ≡ true }
     ensures turns { (before : List Turn) → StandFor front.old.links front.old.desk.run.site.limits.file before
-        → Turns D.Medium.told result front.new.links front.old.desk.run front.new.desk.run before
+        → Turns result front.new.links front.old.desk.run front.new.desk.run before
         (world (script_view (S.left script.old) taken.old (S.faults script.old)) (sink_view (K.written out.old) (K.faults out.old)))
         (world (script_view (S.left script.new) taken.new (S.faults script.new)) (sink_view (K.written out.new) (K.faults out.new))) }
     ensures ready { IfNone result (front.new.desk.ready ≡ true) }

@@ -30,11 +30,11 @@ fn run_records<S: Source, K: Sink, D: TapeDrive + Drop>(
     requires ready { front.old.desk.ready ≡ true }
     requires links { LinksStand front.old.links front.old.desk.run.site.limits.file (λ link. []) (λ link. []) }
     requires buffer { 0 < length buffer.old }
-    ensures { (tells : Bool) (site : Site) → Begins D.Medium.told tells site front.old.desk → Replays D.Medium.told tells result site (source_view (S.left script.old) (S.faults script.old)) (source_view (S.left script.new) (S.faults script.new))
+    ensures { (tells : Bool) (site : Site) → Begins tells site front.old.desk → Replays tells result site (source_view (S.left script.old) (S.faults script.old)) (source_view (S.left script.new) (S.faults script.new))
         (sink_view (K.written out.old) (K.faults out.old)) (sink_view (K.written out.new) (K.faults out.new)) }
 {
     runs_follow();
-    runs_keep_promises::<D>();
+    runs_keep_promises();
     front.desk.site().keeps_rules();
     let mut taken = 0;
     'records: loop {
@@ -54,7 +54,7 @@ pub(crate) fn run_script<S: Source, K: Sink, D: TapeDrive + Drop>(
 ) -> Status
     requires ready { front.old.desk.ready ≡ true }
     requires links { LinksStand front.old.links front.old.desk.run.site.limits.file (λ link. []) (λ link. []) }
-    ensures { (tells : Bool) (site : Site) → Begins D.Medium.told tells site front.old.desk → Replays D.Medium.told tells result site (source_view (S.left script.old) (S.faults script.old)) (source_view (S.left script.new) (S.faults script.new))
+    ensures { (tells : Bool) (site : Site) → Begins tells site front.old.desk → Replays tells result site (source_view (S.left script.old) (S.faults script.old)) (source_view (S.left script.new) (S.faults script.new))
         (sink_view (K.written out.old) (K.faults out.old)) (sink_view (K.written out.new) (K.faults out.new)) }
 {
     front.desk.site().keeps_rules();

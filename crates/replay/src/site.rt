@@ -2,7 +2,8 @@
 ghost use Rattle.std.specs.Prelude.{◌≡◌, [], MatchResult};
 ghost use Rattle.cta_site.specs.Faults.{IsCauseOf};
 ghost use Rattle.replay.specs.Seen.{source_view};
-ghost use Rattle.replay.specs.SiteFile.{ArchiveMade, IsSiteOf, IsStatusOf, SiteRead, TookSite, site_fault};
+ghost use Rattle.replay.specs.SiteFile.{IsSiteOf, site_fault};
+ghost use Rattle.replay.specs.SiteReading.{ArchiveMade, IsStatusOf, SiteRead, TookSite};
 
 use crate::opening::open_archive;
 use crate::status::Status;
@@ -81,7 +82,7 @@ fn archive_of<D: TapeDrive, B: Bench<D>>(
     bench: &mut B,
     keys: RandomState,
 ) -> Result<Archive<D::Medium>, Status>
-    ensures made { ArchiveMade result bytes.now }
+    ensures made { ArchiveMade (B.tells bench.old) result bytes.now }
     ensures tells { B.tells bench.new ≡ B.tells bench.old }
 {
     match site_of(alloc, bytes) {
@@ -100,7 +101,7 @@ pub(crate) fn read_archive<A: Source, D: TapeDrive, B: Bench<D>>(
     bench: &mut B,
     keys: RandomState,
 ) -> Result<Archive<D::Medium>, Status>
-    ensures read { SiteRead result (source_view (A.left site.old) (A.faults site.old)) (source_view (A.left site.new) (A.faults site.new)) }
+    ensures read { SiteRead (B.tells bench.old) result (source_view (A.left site.old) (A.faults site.old)) (source_view (A.left site.new) (A.faults site.new)) }
     ensures tells { B.tells bench.new ≡ B.tells bench.old }
 {
     let mut bytes = Vec::new(alloc);

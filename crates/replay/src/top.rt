@@ -1,9 +1,9 @@
 // The run of the program.
 ghost use Rattle.std.specs.Prelude.{◌≡◌, map, string_bytes};
 ghost use Rattle.replay.specs.Outcome.{Replays};
-ghost use Rattle.replay.specs.Output.{fresh};
+ghost use Rattle.replay.specs.SiteReading.{IsOpened};
 ghost use Rattle.replay.specs.Seen.{source_view, sink_view};
-ghost use Rattle.replay.specs.Top.{handed, Runs, RunsWhole};
+ghost use Rattle.replay.specs.Top.{handed, HasReplayed, Runs};
 
 use crate::front::Front;
 use crate::run::run_script;
@@ -25,12 +25,11 @@ fn run_archive<S: Source, K: Sink, D: TapeDrive + Drop, B: Bench<D>>(
     out: &mut K,
     bench: &mut B,
 ) -> Status
-    requires { archive ≡ fresh archive.site }
-    ensures { Replays D.Medium.told (B.tells bench.old) result archive.site (source_view (S.left script.old) (S.faults script.old)) (source_view (S.left script.new) (S.faults script.new))
+    requires { IsOpened (B.tells bench.old) archive }
+    ensures { Replays (B.tells bench.old) result archive.site (source_view (S.left script.old) (S.faults script.old)) (source_view (S.left script.new) (S.faults script.new))
         (sink_view (K.written out.old) (K.faults out.old)) (sink_view (K.written out.new) (K.faults out.new)) }
 {
     archive.site().keeps_rules();
-    archive.keeps_media();
     match Front::new(alloc, archive, bench) {
         Ok(mut front) => {
             let status = run_script(alloc, &mut front, script, out);
@@ -51,9 +50,9 @@ fn replay_site<A: Source, S: Source, K: Sink, D: TapeDrive + Drop, B: Bench<D>>(
     bench: &mut B,
     keys: RandomState,
 ) -> Status
-    ensures { Runs D.Medium.told (B.tells bench.old) result (map string_bytes words.now)
-        (handed (source_view (A.left site_bytes.old) (A.faults site_bytes.old)) (source_view (S.left script.old) (S.faults script.old)) (sink_view (K.written out.old) (K.faults out.old)))
-        (handed (source_view (A.left site_bytes.new) (A.faults site_bytes.new)) (source_view (S.left script.new) (S.faults script.new)) (sink_view (K.written out.new) (K.faults out.new))) }
+    ensures { Runs (B.tells bench.old) result (map string_bytes words.now)
+        (handed (A.left site_bytes.old) (A.faults site_bytes.old) (S.left script.old) (S.faults script.old) (K.written out.old) (K.faults out.old))
+        (handed (A.left site_bytes.new) (A.faults site_bytes.new) (S.left script.new) (S.faults script.new) (K.written out.new) (K.faults out.new)) }
 {
     let Ok(is_form) = is_replay_form(alloc, words) else {
         return Status::NoMemory;
@@ -74,7 +73,7 @@ fn replay_site<A: Source, S: Source, K: Sink, D: TapeDrive + Drop, B: Bench<D>>(
 /// script. A script is a list of records up to the line `end`, whose bytes after its LF are not read.
 /// - The record `http LINK MOMENT LENGTH` LF, LENGTH bytes, LF gives its bytes to the connection of the link LINK (0 to 1,023) at the
 ///   MOMENT (seconds since 1970, up to 253,402,300,799), as they come: a request may be cut over records, and a record may complete
-///   several. Each 100 Continue, refusal and request that its bytes complete (RFC 9112, in the profile of `conn`) is answered at once, in
+///   several. Each 100 Continue, refusal and request that its bytes complete (RFC 9112, in the profile of `conn`) is answered in
 ///   order: a request is routed by the route table of `tape_routes` and asked of an archive of the site. A refusal and a closing request
 ///   end their link, whose later bytes are dropped. `out` takes for each reply the line `reply LINK LENGTH`, the LENGTH bytes of the
 ///   reply and LF.
@@ -96,13 +95,16 @@ fn replay_site<A: Source, S: Source, K: Sink, D: TapeDrive + Drop, B: Bench<D>>(
 /// - `NoMemory`: memory was wanted. Whole replies and lines were written, from the first on.
 /// - `TooLong`: 2^32 bytes of the script were taken without `end`. All that was due was written.
 ///
-/// Whichever calls of devices fail, behind each step each tape of the site has a medium that is true for what is kept, where it tells
-/// its records; each job that a fault gave back, and that has not ended, stands in its queue again right behind it; and where media always
-/// tell, a drive that is honest meets no mismatch.
+/// Whichever calls of devices fail, behind each step each tape of the site has its medium, by its label, on the shelf or with the drive
+/// that has it mounted, which is true for what is kept where it tells its records; each job that a fault gave back, and that has not ended,
+/// stands in its queue again right behind it; what a drive reads that tells its plan is the item's content, altered exactly where the plan
+/// says so; and over a bench that tells, a drive that is honest meets no mismatch.
 ///
-/// `ListenFault` is not answered. It always returns. The replies are those to the bytes that were taken: of a record's
-/// bytes no more than 16,384 are taken at a time, and none before there is room for them. Its memory is that of the archive, of
-/// the links, of the media and of one body on each link; its time that of the archive's asks and looks beside the bytes: one of a body is
+/// `ListenFault` is not answered. It always returns.
+///
+/// These are true of the body and stand in no clause: an event is answered once its bytes are taken, before more are; of a record's bytes
+/// no more than 16,384 are taken at a time, and none before there is room for them; the memory is that of the archive, of the links, of the
+/// media and of one body on each link; and the time is that of the archive's asks and looks beside the bytes, of which one of a body is
 /// moved twice and hashed once, and one of a head, a chunk line or a trailer that isn't whole is read again at each piece.
 pub fn replay_top<A: Source, S: Source, K: Sink, D: TapeDrive + Drop, B: Bench<D>>(
     alloc: Global,
@@ -113,14 +115,11 @@ pub fn replay_top<A: Source, S: Source, K: Sink, D: TapeDrive + Drop, B: Bench<D
     bench: &mut B,
     keys: RandomState,
 ) -> Status
-    // Which status comes when, what was taken then and what was written.
-    ensures runs { Runs D.Medium.told (B.tells bench.old) result (map string_bytes words.now)
-        (handed (source_view (A.left site_bytes.old) (A.faults site_bytes.old)) (source_view (S.left script.old) (S.faults script.old)) (sink_view (K.written out.old) (K.faults out.old)))
-        (handed (source_view (A.left site_bytes.new) (A.faults site_bytes.new)) (source_view (S.left script.new) (S.faults script.new)) (sink_view (K.written out.new) (K.faults out.new))) }
-    // A whole script is run to its end, unless something fails or memory is wanted.
-    ensures whole { RunsWhole D.Medium.told (B.tells bench.old) result (map string_bytes words.now)
-        (handed (source_view (A.left site_bytes.old) (A.faults site_bytes.old)) (source_view (S.left script.old) (S.faults script.old)) (sink_view (K.written out.old) (K.faults out.old)))
-        (handed (source_view (A.left site_bytes.new) (A.faults site_bytes.new)) (source_view (S.left script.new) (S.faults script.new)) (sink_view (K.written out.new) (K.faults out.new))) }
+    // Which status comes when, what was taken then and what was written; and a whole script is run to its end, unless something fails
+    // or memory is wanted.
+    ensures { HasReplayed (B.tells bench.old) result (map string_bytes words.now)
+        (handed (A.left site_bytes.old) (A.faults site_bytes.old) (S.left script.old) (S.faults script.old) (K.written out.old) (K.faults out.old))
+        (handed (A.left site_bytes.new) (A.faults site_bytes.new) (S.left script.new) (S.faults script.new) (K.written out.new) (K.faults out.new)) }
 {
     one_numbering();
     replay_site(alloc, words, site_bytes, script, out, bench, keys)

@@ -3,7 +3,7 @@ use Rattle.std.proofs.Common.{◌≡◌, ℕ, ◌+◌, ◌≤◌, ◌<◌, List,
 use Rattle.std.specs.Prelude.{Option, Some, None, IfSome, ◌==◌, if◌then◌else◌}
 use Rattle.std.specs.List.{AllByRecursion}
 use Rattle.std.proofs.lemmas.Bool.{eq-eqb}
-use Rattle.blob.specs.Records.{TapeRecords}
+use Rattle.blob.specs.Records.{MediumView, TapeRecords}
 use Rattle.cta_site.specs.declared.site.Site.{Site}
 use Rattle.cta_site.specs.Listed.{Listed}
 use Rattle.cta_model.specs.declared.answers.Answer.{Answer}
@@ -19,7 +19,7 @@ use Rattle.cta_model.specs.declared.hands.Hand.{Hand}
 use Rattle.cta_model.specs.Answers.{answer_of, is_accepted, is_known, is_last_batch, refuse}
 use Rattle.cta_model.specs.History.{History}
 use Rattle.cta_model.specs.Legal.{greatest_moment, IsLegal, new_entry}
-use Rattle.cta_model.specs.Media.{IsTrueMedium}
+use Rattle.cta_model.specs.Media.{IsMediumOf, IsTrueMedium}
 use Rattle.cta_model.specs.Mounts.{claimed_items, is_open, item_jobs, last_batch, tape_by, tape_of_mount, without_jobs}
 use Rattle.cta_model.specs.Tapes.{tape_items}
 use Rattle.cta_model.proofs.Appends.{is_next}
@@ -39,7 +39,7 @@ use Rattle.session_laws.proofs.Stays.{kept_files}
 -- ---- the entry of an ask
 
 -- the history with the entry of an accepted ask is legal
-pub legal_next : {M : Type 0} (told : M → Option TapeRecords) (site : Site) (h : History) (t d : ℕ) (s : State M) (w : Asked) (a : Ask) (q : Hand M) (b : Answer) → IsLegal site h → t ≤ greatest_moment → d < length site.drives.items → FitsAsk told h d s w a q → b ≡ answer_of site h t a → is_accepted b ≡ true
+pub legal_next : {M : Type 0} (told : M → MediumView) (site : Site) (h : History) (t d : ℕ) (s : State M) (w : Asked) (a : Ask) (q : Hand M) (b : Answer) → IsLegal site h → t ≤ greatest_moment → d < length site.drives.items → FitsAsk told h d s w a q → b ≡ answer_of site h t a → is_accepted b ≡ true
     → IsLegal site (new_entry h t a b ∷ h)
 legal_next told site h t d s w a q b legal low known is answered accepted = (legal, is_next site h t a b legal low (fit_of told site h d s w a q known is).0 answered accepted)
 
@@ -51,11 +51,14 @@ pub record IsKeptBy (e : Entry) (h : History) (m v : ℕ) : Type 0 where
 mount_next : (e : Entry) (h : History) (d m : ℕ) (way : Direction) (v : ℕ) → is_open (e ∷ h) m ≡ is_open h m → IsMountAt h d m way v → IsMountAt (e ∷ h) d m way v
 mount_next e h d m way v still is = record { still = still ∙ is.still; mount = mount_older e h m (open_older h m is.still) ∙ is.mount }
 
-medium_next : (e : Entry) (h : History) (v : ℕ) (o : Option TapeRecords) → ((t : TapeRecords) → IsTrueMedium h v t → IsTrueMedium (e ∷ h) v t) → IfSome o (IsTrueMedium h v) → IfSome o (IsTrueMedium (e ∷ h) v)
-medium_next e h v None stays is = tt
-medium_next e h v (Some t) stays is = stays t is
+records_next : (e : Entry) (h : History) (v : ℕ) (o : Option TapeRecords) → ((t : TapeRecords) → IsTrueMedium h v t → IsTrueMedium (e ∷ h) v t) → IfSome o (IsTrueMedium h v) → IfSome o (IsTrueMedium (e ∷ h) v)
+records_next e h v None stays is = tt
+records_next e h v (Some t) stays is = stays t is
 
-pub at_next : {M : Type 0} (told : M → Option TapeRecords) (e : Entry) (h : History) (d : ℕ) (x : Mounted M) → is_open (e ∷ h) x.mount ≡ is_open h x.mount → ((t : TapeRecords) → IsTrueMedium h x.tape t → IsTrueMedium (e ∷ h) x.tape t) → IsAt told h d x → IsAt told (e ∷ h) d x
+medium_next : (e : Entry) (h : History) (v : ℕ) (x : MediumView) → ((t : TapeRecords) → IsTrueMedium h v t → IsTrueMedium (e ∷ h) v t) → IsMediumOf h v x → IsMediumOf (e ∷ h) v x
+medium_next e h v x stays is = record { label = is.label; truth = records_next e h v x.records stays is.truth }
+
+pub at_next : {M : Type 0} (told : M → MediumView) (e : Entry) (h : History) (d : ℕ) (x : Mounted M) → is_open (e ∷ h) x.mount ≡ is_open h x.mount → ((t : TapeRecords) → IsTrueMedium h x.tape t → IsTrueMedium (e ∷ h) x.tape t) → IsAt told h d x → IsAt told (e ∷ h) d x
 at_next told e h d x still stays is = record { mount = mount_next e h d x.mount x.direction x.tape still is.mount; medium = medium_next e h x.tape (told x.medium) stays is.medium }
 
 pub files_next : (e : Entry) (h : History) (items : List Item) → AreOfFiles h items → AreOfFiles (e ∷ h) items
@@ -63,7 +66,7 @@ files_next e h items is = kept_files (e ∷ h) h items (omega arith) (λ f low. 
 
 -- ---- after a Failed or a Recalled
 
-pub resolved_next : {M : Type 0} (told : M → Option TapeRecords) (e : Entry) (h : History) (d m : ℕ) (jobs : List Job) (s : State M) → is_open (e ∷ h) m ≡ is_open h m → claimed_items (e ∷ h) m ≡ without_jobs jobs (claimed_items h m)
+pub resolved_next : {M : Type 0} (told : M → MediumView) (e : Entry) (h : History) (d m : ℕ) (jobs : List Job) (s : State M) → is_open (e ∷ h) m ≡ is_open h m → claimed_items (e ∷ h) m ≡ without_jobs jobs (claimed_items h m)
     → ((v : ℕ) (t : TapeRecords) → IsTrueMedium h v t → IsTrueMedium (e ∷ h) v t) → FitsResolved told h d m jobs s → FitsIn told (e ∷ h) d s
 resolved_next told e h d m jobs (state.Leaving x) still claims stays is = record {
   at = at_next told e h d x (subst (λ (k : ℕ). is_open (e ∷ h) k ≡ is_open h k) is.0 still) (stays x.tape) is.2;
@@ -94,13 +97,13 @@ recorded_all : (t : TapeRecords) (items : List Item) → AreRecorded t.records i
 recorded_all t [] is = tt
 recorded_all t (i ∷ items) is = (is.0, recorded_all t items is.1)
 
-pub flushed_next : {M : Type 0} (told : M → Option TapeRecords) (site : Site) (h : History) (t d m : ℕ) (b : Answer) (x : Mounted M) (items : Listed Item) → m ≡ x.mount → IsLegal site (new_entry h t (ask.Flushed m items) b ∷ h) → IsFlushing told h d x items.items
+pub flushed_next : {M : Type 0} (told : M → MediumView) (site : Site) (h : History) (t d m : ℕ) (b : Answer) (x : Mounted M) (items : Listed Item) → m ≡ x.mount → IsLegal site (new_entry h t (ask.Flushed m items) b ∷ h) → IsFlushing told h d x items.items
     → IsRest told (new_entry h t (ask.Flushed m items) b ∷ h) d x
 flushed_next {M} told site h t d m b x items same legal is =
     let e : Entry = new_entry h t (ask.Flushed m items) b in
     let tape : tape_of_mount h m ≡ x.tape = ap (tape_of_mount h) same ∙ ap tape_by is.at.mount.mount in
     record {
-      at = record { mount = mount_next e h d x.mount x.direction x.tape refl is.at.mount; medium = medium (told x.medium) tape legal is.at.medium is.safe };
+      at = record { mount = mount_next e h d x.mount x.direction x.tape refl is.at.mount; medium = record { label = is.at.medium.label; truth = medium (told x.medium).records tape legal is.at.medium.truth is.safe } };
       claims = subst (λ (k : ℕ). claimed_items (e ∷ h) k ≡ []) same (here m (without_jobs (item_jobs items.items) (claimed_items h m)) (claimed_items h m) ∙ ap (λ (k : ℕ). without_jobs (item_jobs items.items) (claimed_items h k)) same ∙ is.resolves.left);
     }
   where
@@ -117,14 +120,14 @@ open_accepted : (closed : Bool) (a : Answer) → closed ≡ false → is_accepte
 open_accepted true a up is = absurd (cc)
 open_accepted false a up is = is
 
-pub flushed_accepted : {M : Type 0} (told : M → Option TapeRecords) (site : Site) (h : History) (t d m : ℕ) (x : Mounted M) (items : Listed Item) → m ≡ x.mount → IsFlushing told h d x items.items → is_accepted (answer_of site h t (ask.Flushed m items)) ≡ true
+pub flushed_accepted : {M : Type 0} (told : M → MediumView) (site : Site) (h : History) (t d m : ℕ) (x : Mounted M) (items : Listed Item) → m ≡ x.mount → IsFlushing told h d x items.items → is_accepted (answer_of site h t (ask.Flushed m items)) ≡ true
 flushed_accepted told site h t d m x items same is =
     let known : is_known h m (item_jobs items.items) ≡ true = ap (λ (k : ℕ). is_known h k (item_jobs items.items)) same ∙ is.resolves.known in
     let last : is_last_batch (last_batch h m) items.items ≡ true = last_self (last_batch h m) items.items (ap (last_batch h) same ∙ is.last) in
     open_accepted _ _ (not_true _ (both_true _ _ known last)) refl
 
-pub recalled_accepted : {M : Type 0} (told : M → Option TapeRecords) (site : Site) (h : History) (t d m : ℕ) (job : Job) (s : State M) → FitsResolved told h d m (job ∷ []) s → is_accepted (answer_of site h t (ask.Recalled m job)) ≡ true
+pub recalled_accepted : {M : Type 0} (told : M → MediumView) (site : Site) (h : History) (t d m : ℕ) (job : Job) (s : State M) → FitsResolved told h d m (job ∷ []) s → is_accepted (answer_of site h t (ask.Recalled m job)) ≡ true
 recalled_accepted told site h t d m job s is = open_accepted _ _ (not_true _ (resolved_known told h d m (job ∷ []) s is)) refl
 
-pub failed_accepted : {M : Type 0} (told : M → Option TapeRecords) (site : Site) (h : History) (t d m : ℕ) (f : Fault) (charged returned : Listed Job) (s : State M) → FitsResolved told h d m (charged.items ++ returned.items) s → is_accepted (answer_of site h t (ask.Failed m f charged returned)) ≡ true
+pub failed_accepted : {M : Type 0} (told : M → MediumView) (site : Site) (h : History) (t d m : ℕ) (f : Fault) (charged returned : Listed Job) (s : State M) → FitsResolved told h d m (charged.items ++ returned.items) s → is_accepted (answer_of site h t (ask.Failed m f charged returned)) ≡ true
 failed_accepted told site h t d m f charged returned s is = open_accepted _ _ (not_true _ (resolved_known told h d m (charged.items ++ returned.items) s is)) refl

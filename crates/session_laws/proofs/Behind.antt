@@ -1,7 +1,7 @@
 -- After each answer a session fits the history behind the ask.
 use Rattle.std.proofs.Common.{◌≡◌, ℕ, ◌≤◌, ◌<◌, [], ◌∷◌, ◌++◌, Bool, true, false, refl, sym, subst, length}
 use Rattle.std.specs.Prelude.{Option, if◌then◌else◌}
-use Rattle.blob.specs.Records.{TapeRecords}
+use Rattle.blob.specs.Records.{MediumView}
 use Rattle.cta_site.specs.declared.site.Site.{Site}
 use Rattle.cta_model.specs.declared.asks.Ask.{Ask}
 use Rattle.cta_model.specs.declared.asks.Ask.TheVariants as ask
@@ -28,7 +28,7 @@ later : (accepted : Bool) (g h : History) → accepted ≡ true → (if accepted
 later true g h e = refl
 later false g h e = absurd (cc)
 
-behind : {M : Type 0} (told : M → Option TapeRecords) (site : Site) (h : History) (t d : ℕ) (s : State M) (w : Asked) (a : Ask) (q out : Hand M) → IsLegal site h → t ≤ greatest_moment → d < length site.drives.items → FitsAsk told h d s w a q
+behind : {M : Type 0} (told : M → MediumView) (site : Site) (h : History) (t d : ℕ) (s : State M) (w : Asked) (a : Ask) (q out : Hand M) → IsLegal site h → t ≤ greatest_moment → d < length site.drives.items → FitsAsk told h d s w a q
     → HandBack told (is_accepted (answer_of site h t a)) h (history_after site h t a) a (answer_of site h t a) q out → FitsState told site (history_after site h t a) d (state_after w s (answer_of site h t a) out)
 behind told site h t d s w (ask.Next k) q out legal low known is back =
     let b = answer_of site h t (ask.Next k) in
@@ -71,5 +71,5 @@ behind told site h t d s w (ask.End m f) q out legal low known is back =
     (subst (λ s. FitsState told site (history_after site h t (ask.End m f)) d s) (sym is.state) (record { known = known; state = tt }))
 behind told site h t d s w _ q out legal low known is back = absurd is
 
-pub answered_session_fits : {M : Type 0} (told : M → Option TapeRecords) → AnsweredSessionFits told
+pub answered_session_fits : {M : Type 0} (told : M → MediumView) → AnsweredSessionFits told
 answered_session_fits told site h t d s w a q out legal low is back = behind told site h t d s w a q out legal low is.known is.asked back

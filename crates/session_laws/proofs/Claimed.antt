@@ -3,7 +3,7 @@ use Rattle.std.proofs.Common.{◌≡◌, ℕ, ◌+◌, ◌≤◌, ◌<◌, inl, 
 use Rattle.std.specs.Prelude.{Option, Some, None, IfSome, ◌==◌, if◌then◌else◌, map}
 use Rattle.std.proofs.lemmas.Bool.{eq-eqb}
 use Rattle.blob.specs.declared.sum.Sum256.{Sum256}
-use Rattle.blob.specs.Records.{TapeRecords}
+use Rattle.blob.specs.Records.{MediumView, TapeRecords}
 use Rattle.cta_site.specs.declared.site.Site.{Site}
 use Rattle.cta_site.specs.Listed.{Listed}
 use Rattle.cta_model.specs.declared.answers.Answer.{Answer}
@@ -22,7 +22,7 @@ use Rattle.cta_model.specs.Batches.{batch_by, written_items}
 use Rattle.cta_model.specs.Hands.{BatchHand, HandBack}
 use Rattle.cta_model.specs.History.{History, moment_of}
 use Rattle.cta_model.specs.Legal.{IsLegal, new_entry}
-use Rattle.cta_model.specs.Media.{IsTrueMedium}
+use Rattle.cta_model.specs.Media.{IsMediumOf, IsTrueMedium}
 use Rattle.cta_model.specs.Mounts.{batch_or, claimed_items, has_job, is_open, item_jobs, last_batch, mount_of, same_job}
 use Rattle.cta_model.specs.Tapes.{next_fseq}
 use Rattle.cta_laws.specs.Jobs.{count_job}
@@ -50,8 +50,8 @@ use Rattle.drive_session.proofs.Resolving.{same_self}
 mounted_number : (m n : ℕ) (way way' : Direction) (v v' : ℕ) → answer.Mounted m way v ≡ answer.Mounted n way' v' → m ≡ n
 mounted_number m n way way' v v' e = cc
 
-mounted_next : {M : Type 0} (told : M → Option TapeRecords) (site : Site) (h : History) (t d k m : ℕ) (way : Direction) (v : ℕ) (y : M) → k ≡ d → answer.Mounted m way v ≡ answer_of site h t (ask.Next k) → IsLegal site h
-    → IfSome (told y) (IsTrueMedium (new_entry h t (ask.Next k) (answer.Mounted m way v) ∷ h) v) → IsRest told (new_entry h t (ask.Next k) (answer.Mounted m way v) ∷ h) d (record { mount = m; direction = way; tape = v; medium = y })
+mounted_next : {M : Type 0} (told : M → MediumView) (site : Site) (h : History) (t d k m : ℕ) (way : Direction) (v : ℕ) (y : M) → k ≡ d → answer.Mounted m way v ≡ answer_of site h t (ask.Next k) → IsLegal site h
+    → IsMediumOf (new_entry h t (ask.Next k) (answer.Mounted m way v) ∷ h) v (told y) → IsRest told (new_entry h t (ask.Next k) (answer.Mounted m way v) ∷ h) d (record { mount = m; direction = way; tape = v; medium = y })
 mounted_next told site h t d k m way v y same answered legal truth =
     let e : Entry = new_entry h t (ask.Next k) (answer.Mounted m way v) in
     let is = answer_is site h t (ask.Next k) (answer.Mounted m way v) answered refl in
@@ -67,7 +67,7 @@ mounted_next told site h t d k m way v y same answered legal truth =
       claims = claimed_new site h legal m (omega (arith, number));
     }
 
-pub next_fits : {M : Type 0} (told : M → Option TapeRecords) (site : Site) (h : History) (t d k : ℕ) (q out : Hand M) (b : Answer) → k ≡ d → d < length site.drives.items → IsLegal site h → b ≡ answer_of site h t (ask.Next k)
+pub next_fits : {M : Type 0} (told : M → MediumView) (site : Site) (h : History) (t d k : ℕ) (q out : Hand M) (b : Answer) → k ≡ d → d < length site.drives.items → IsLegal site h → b ≡ answer_of site h t (ask.Next k)
     → HandBack told (is_accepted b) h (if is_accepted b then new_entry h t (ask.Next k) b ∷ h else h) (ask.Next k) b q out → FitsState told site (if is_accepted b then new_entry h t (ask.Next k) b ∷ h else h) d (next_state b out)
 next_fits told site h t d k q (hand.Medium y) (answer.Mounted m way v) same known legal answered back = record { known = known; state = mounted_next told site h t d k m way v y same answered legal back }
 next_fits told site h t d k q hand.Nothing (answer.Mounted m way v) same known legal answered back = absurd back
@@ -78,7 +78,7 @@ next_fits told site h t d k q out _ same known legal answered back = record { kn
 -- ---- a Claim that gets no batch
 
 -- a mount that claims nothing is left, whether an entry was added or not
-left_fits : {M : Type 0} (told : M → Option TapeRecords) (site : Site) (h : History) (d : ℕ) (x : Mounted M) (e : Entry) (accepted : Bool) → d < length site.drives.items → (accepted ≡ true → IsLegal site (e ∷ h)) → is_open (e ∷ h) x.mount ≡ is_open h x.mount
+left_fits : {M : Type 0} (told : M → MediumView) (site : Site) (h : History) (d : ℕ) (x : Mounted M) (e : Entry) (accepted : Bool) → d < length site.drives.items → (accepted ≡ true → IsLegal site (e ∷ h)) → is_open (e ∷ h) x.mount ≡ is_open h x.mount
     → claimed_items (e ∷ h) x.mount ≡ claimed_items h x.mount → ((legal : IsLegal site (e ∷ h)) (t : TapeRecords) → IsTrueMedium h x.tape t → IsTrueMedium (e ∷ h) x.tape t) → IsRest told h d x → FitsState told site (if accepted then e ∷ h else h) d (state.Leaving x)
 left_fits told site h d x e true known legal still claims stays is = record { known = known; state = record { at = at_next told e h d x still (stays (legal refl)) is.at; claims = claims ∙ is.claims } }
 left_fits told site h d x e false known legal still claims stays is = record { known = known; state = is }
@@ -128,44 +128,44 @@ abbrev claimed : History → ℕ → ℕ → Listed Item → Listed ℕ → Hist
 claimed h t m items evicted = new_entry h t (ask.Claim m) (answer.Batch items evicted) ∷ h
 
 -- what a batch is, that the mount x has claimed as m
-record IsTaken {M : Type 0} (told : M → Option TapeRecords) (site : Site) (h : History) (t d m : ℕ) (x : Mounted M) (items : Listed Item) (evicted : Listed ℕ) : Type 0 where
+record IsTaken {M : Type 0} (told : M → MediumView) (site : Site) (h : History) (t d m : ℕ) (x : Mounted M) (items : Listed Item) (evicted : Listed ℕ) : Type 0 where
   same : m ≡ x.mount
   answered : answer.Batch items evicted ≡ answer_of site h t (ask.Claim m)
   legal : IsLegal site (claimed h t m items evicted)
   rest : IsRest told h d x
 
-taken_at : {M : Type 0} (told : M → Option TapeRecords) (site : Site) (h : History) (t d m : ℕ) (x : Mounted M) (items : Listed Item) (evicted : Listed ℕ) → IsTaken told site h t d m x items evicted → IsAt told (claimed h t m items evicted) d x
+taken_at : {M : Type 0} (told : M → MediumView) (site : Site) (h : History) (t d m : ℕ) (x : Mounted M) (items : Listed Item) (evicted : Listed ℕ) → IsTaken told site h t d m x items evicted → IsAt told (claimed h t m items evicted) d x
 taken_at told site h t d m x items evicted is =
     let e : Entry = new_entry h t (ask.Claim m) (answer.Batch items evicted) in
     at_next told e h d x refl (λ r. true_medium_stays site h e x.tape r is.legal refl) is.rest.at
 
-taken_claims : {M : Type 0} (told : M → Option TapeRecords) (site : Site) (h : History) (t d m : ℕ) (x : Mounted M) (items : Listed Item) (evicted : Listed ℕ) → IsTaken told site h t d m x items evicted → claimed_items (claimed h t m items evicted) x.mount ≡ items.items
+taken_claims : {M : Type 0} (told : M → MediumView) (site : Site) (h : History) (t d m : ℕ) (x : Mounted M) (items : Listed Item) (evicted : Listed ℕ) → IsTaken told site h t d m x items evicted → claimed_items (claimed h t m items evicted) x.mount ≡ items.items
 taken_claims told site h t d m x items evicted is =
     subst (λ (k : ℕ). claimed_items (claimed h t m items evicted) k ≡ items.items) is.same
     (here m (claimed_items h m ++ items.items) (claimed_items h m) ∙ ap (λ (k : ℕ). claimed_items h k ++ items.items) is.same ∙ ap (λ xs. xs ++ items.items) is.rest.claims)
 
-taken_last : {M : Type 0} (told : M → Option TapeRecords) (site : Site) (h : History) (t d m : ℕ) (x : Mounted M) (items : Listed Item) (evicted : Listed ℕ) → IsTaken told site h t d m x items evicted → last_batch (claimed h t m items evicted) x.mount ≡ Some items.items
+taken_last : {M : Type 0} (told : M → MediumView) (site : Site) (h : History) (t d m : ℕ) (x : Mounted M) (items : Listed Item) (evicted : Listed ℕ) → IsTaken told site h t d m x items evicted → last_batch (claimed h t m items evicted) x.mount ≡ Some items.items
 taken_last told site h t d m x items evicted is =
     subst (λ (k : ℕ). last_batch (claimed h t m items evicted) k ≡ Some items.items) is.same (ap (λ o. batch_or o (last_batch h m)) (here m (Some items.items) None))
 
-taken_files : {M : Type 0} (told : M → Option TapeRecords) (site : Site) (h : History) (t d m : ℕ) (x : Mounted M) (items : Listed Item) (evicted : Listed ℕ) → IsTaken told site h t d m x items evicted → AreOfFiles (claimed h t m items evicted) items.items
+taken_files : {M : Type 0} (told : M → MediumView) (site : Site) (h : History) (t d m : ℕ) (x : Mounted M) (items : Listed Item) (evicted : Listed ℕ) → IsTaken told site h t d m x items evicted → AreOfFiles (claimed h t m items evicted) items.items
 taken_files told site h t d m x items evicted is =
     let last = taken_last told site h t d m x items evicted is in
     let known : is_last_batch (last_batch (claimed h t m items evicted) x.mount) items.items ≡ true = ap (λ o. is_last_batch o items.items) last ∙ same_items_self items.items in
     all_files (claimed h t m items evicted) items.items (flushed_of_files site (claimed h t m items evicted) is.legal x.mount items.items _ refl known)
 
 -- the items are those of the tape's batch
-taken_batch : {M : Type 0} (told : M → Option TapeRecords) (site : Site) (h : History) (t d m : ℕ) (x : Mounted M) (items : Listed Item) (evicted : Listed ℕ) → IsTaken told site h t d m x items evicted → items.items ≡ batch_by site h (moment_of h t) x.direction x.tape
+taken_batch : {M : Type 0} (told : M → MediumView) (site : Site) (h : History) (t d m : ℕ) (x : Mounted M) (items : Listed Item) (evicted : Listed ℕ) → IsTaken told site h t d m x items evicted → items.items ≡ batch_by site h (moment_of h t) x.direction x.tape
 taken_batch told site h t d m x items evicted is =
     let b = claim_is_batch site h t m items evicted is.answered in
     let mount : b.0 ≡ record { drive = d; direction = x.direction; tape = x.tape } = mount_same _ _ (sym b.1 ∙ ap (mount_of h) is.same ∙ is.rest.at.mount.mount) in
     b.2 ∙ ap (λ (z : Mount). batch_by site h (moment_of h t) z.direction z.tape) mount
 
-taken_once : {M : Type 0} (told : M → Option TapeRecords) (site : Site) (h : History) (t d m : ℕ) (x : Mounted M) (items : Listed Item) (evicted : Listed ℕ) → IsTaken told site h t d m x items evicted → names_twice (item_jobs items.items) ≡ false
+taken_once : {M : Type 0} (told : M → MediumView) (site : Site) (h : History) (t d m : ℕ) (x : Mounted M) (items : Listed Item) (evicted : Listed ℕ) → IsTaken told site h t d m x items evicted → names_twice (item_jobs items.items) ≡ false
 taken_once told site h t d m x items evicted is = once_by (item_jobs items.items) (claim_count site h is.legal.0 t m items evicted is.answered)
 
 -- a batch to be written
-written_fits : {M : Type 0} (told : M → Option TapeRecords) (site : Site) (h : History) (t d m : ℕ) (x : Mounted M) (items : Listed Item) (evicted : Listed ℕ) (sums : List Sum256) → IsTaken told site h t d m x items evicted → x.direction ≡ direction.Archive → 0 < length items.items → sums ≡ map (λ (i : Item). i.sum) items.items
+written_fits : {M : Type 0} (told : M → MediumView) (site : Site) (h : History) (t d m : ℕ) (x : Mounted M) (items : Listed Item) (evicted : Listed ℕ) (sums : List Sum256) → IsTaken told site h t d m x items evicted → x.direction ≡ direction.Archive → 0 < length items.items → sums ≡ map (λ (i : Item). i.sum) items.items
     → IsBatch told (claimed h t m items evicted) d x items.items sums
 written_fits told site h t d m x items evicted sums is way some blobs = record {
   at = taken_at told site h t d m x items evicted is;
@@ -180,24 +180,24 @@ written_fits told site h t d m x items evicted sums is way some blobs = record {
 }
 
 -- a batch to be read
-safe_items : {M : Type 0} (told : M → Option TapeRecords) (site : Site) (h : History) (t d m : ℕ) (x : Mounted M) (items : Listed Item) (evicted : Listed ℕ) (o : Option TapeRecords) → IsTaken told site h t d m x items evicted → x.direction ≡ direction.Retrieve → IfSome o (IsTrueMedium h x.tape) → IfSome o (λ r. AreSafe r items.items)
+safe_items : {M : Type 0} (told : M → MediumView) (site : Site) (h : History) (t d m : ℕ) (x : Mounted M) (items : Listed Item) (evicted : Listed ℕ) (o : Option TapeRecords) → IsTaken told site h t d m x items evicted → x.direction ≡ direction.Retrieve → IfSome o (IsTrueMedium h x.tape) → IfSome o (λ r. AreSafe r items.items)
 safe_items told site h t d m x items evicted None is way truth = tt
 safe_items told site h t d m x items evicted (Some r) is way truth = batch_safe site h (moment_of h t) x.tape x.direction r items.items way (taken_batch told site h t d m x items evicted is) truth
 
-read_fits : {M : Type 0} (told : M → Option TapeRecords) (site : Site) (h : History) (t d m : ℕ) (x : Mounted M) (items : Listed Item) (evicted : Listed ℕ) → IsTaken told site h t d m x items evicted → x.direction ≡ direction.Retrieve → IsReading told (claimed h t m items evicted) d x items.items
+read_fits : {M : Type 0} (told : M → MediumView) (site : Site) (h : History) (t d m : ℕ) (x : Mounted M) (items : Listed Item) (evicted : Listed ℕ) → IsTaken told site h t d m x items evicted → x.direction ≡ direction.Retrieve → IsReading told (claimed h t m items evicted) d x items.items
 read_fits told site h t d m x items evicted is way = record {
   unread = record {
     at = taken_at told site h t d m x items evicted is;
     way = way;
     once = taken_once told site h t d m x items evicted is;
     files = taken_files told site h t d m x items evicted is;
-    safe = safe_items told site h t d m x items evicted (told x.medium) is way is.rest.at.medium;
+    safe = safe_items told site h t d m x items evicted (told x.medium).records is way is.rest.at.medium.truth;
   };
   claims = taken_claims told site h t d m x items evicted is;
 }
 
 -- where a batch leads, the session fits
-batch_fits : {M : Type 0} (told : M → Option TapeRecords) (site : Site) (h : History) (t d m : ℕ) (x : Mounted M) (items : Listed Item) (evicted : Listed ℕ) (way : Direction) (is : List Item) (out : Hand M) → d < length site.drives.items → x.direction ≡ way → items.items ≡ is → IsTaken told site h t d m x items evicted
+batch_fits : {M : Type 0} (told : M → MediumView) (site : Site) (h : History) (t d m : ℕ) (x : Mounted M) (items : Listed Item) (evicted : Listed ℕ) (way : Direction) (is : List Item) (out : Hand M) → d < length site.drives.items → x.direction ≡ way → items.items ≡ is → IsTaken told site h t d m x items evicted
     → BatchHand (Some (record { drive = d; direction = way; tape = x.tape })) items.items out → FitsState told site (claimed h t m items evicted) d (batch_leads way is x items out)
 batch_fits told site h t d m x items evicted way [] out known goes none is back = record { known = known; state = record { at = taken_at told site h t d m x items evicted is; claims = taken_claims told site h t d m x items evicted is ∙ none } }
 batch_fits told site h t d m x items evicted direction.Archive (i ∷ rest) (hand.Blobs blobs) known goes some is back =
@@ -207,7 +207,7 @@ batch_fits told site h t d m x items evicted direction.Archive (i ∷ rest) (han
 batch_fits told site h t d m x items evicted direction.Archive (i ∷ rest) (hand.Medium y) known goes some is back = absurd back
 batch_fits told site h t d m x items evicted direction.Retrieve (i ∷ rest) out known goes some is back = record { known = known; state = read_fits told site h t d m x items evicted is goes }
 
-pub claim_fits : {M : Type 0} (told : M → Option TapeRecords) (site : Site) (h : History) (t d m : ℕ) (x : Mounted M) (q out : Hand M) (b : Answer) → m ≡ x.mount → d < length site.drives.items → (is_accepted b ≡ true → IsLegal site (new_entry h t (ask.Claim m) b ∷ h)) → b ≡ answer_of site h t (ask.Claim m) → IsRest told h d x
+pub claim_fits : {M : Type 0} (told : M → MediumView) (site : Site) (h : History) (t d m : ℕ) (x : Mounted M) (q out : Hand M) (b : Answer) → m ≡ x.mount → d < length site.drives.items → (is_accepted b ≡ true → IsLegal site (new_entry h t (ask.Claim m) b ∷ h)) → b ≡ answer_of site h t (ask.Claim m) → IsRest told h d x
     → HandBack told (is_accepted b) h (if is_accepted b then new_entry h t (ask.Claim m) b ∷ h else h) (ask.Claim m) b q out → FitsState told site (if is_accepted b then new_entry h t (ask.Claim m) b ∷ h else h) d (claimed_state x b out)
 claim_fits told site h t d m x q out (answer.Batch items evicted) same known legal answered rest back =
     batch_fits told site h t d m x items evicted x.direction items.items out known refl refl (record { same = same; answered = answered; legal = legal refl; rest = rest })

@@ -2,7 +2,7 @@
 use Rattle.std.proofs.Common.{◌≡◌, ℕ, List, [], ◌∷◌, ◌++◌, Bool, true, false, not, refl, sym, subst, ◌∙◌, ap}
 use Rattle.std.specs.Prelude.{Option, Some, None, IfSome, ◌&&◌, if◌then◌else◌, length, ◌<◌}
 use Rattle.std.proofs.lemmas.Bool.{eq-eqb}
-use Rattle.blob.specs.Records.{TapeRecords}
+use Rattle.blob.specs.Records.{MediumView}
 use Rattle.cta_site.specs.declared.site.Site.{Site}
 use Rattle.cta_model.specs.declared.answers.Answer.{Answer}
 use Rattle.cta_model.specs.declared.answers.Answer.TheVariants as answer
@@ -22,7 +22,7 @@ use Rattle.cta_model.specs.Choice.{mount_choice}
 use Rattle.cta_model.specs.Hands.{HandIn}
 use Rattle.cta_model.specs.History.{History, is_empty, moment_of}
 use Rattle.cta_model.specs.Legal.{IsFit, IsMount, IsMountOf}
-use Rattle.cta_model.specs.Media.{IsTrueMedium}
+use Rattle.cta_model.specs.Media.{IsMediumOf}
 use Rattle.cta_model.specs.Mounts.{is_busy, is_down, is_open, item_jobs, last_batch, mount_of, tape_by}
 use Rattle.drive_session.specs.declared.states.Asked.{Asked}
 use Rattle.drive_session.specs.declared.states.State.{State}
@@ -40,7 +40,7 @@ is_mount h d m k way v same is = subst (λ o. IsMount o) (sym (ap (mount_of h) s
 goes_way : (h : History) (d m k : ℕ) (way want : Direction) (v : ℕ) → m ≡ k → IsMountAt h d k way v → way ≡ want → IsMountOf want (mount_of h m)
 goes_way h d m k way want v same is there = subst (λ o. IsMountOf want o) (sym (ap (mount_of h) same ∙ is.mount)) there
 
-pub fit_of : {M : Type 0} (told : M → Option TapeRecords) (site : Site) (h : History) (d : ℕ) (s : State M) (w : Asked) (a : Ask) (q : Hand M) → d < length site.drives.items → FitsAsk told h d s w a q → IsFit site h a × HandIn told h a q
+pub fit_of : {M : Type 0} (told : M → MediumView) (site : Site) (h : History) (d : ℕ) (s : State M) (w : Asked) (a : Ask) (q : Hand M) → d < length site.drives.items → FitsAsk told h d s w a q → IsFit site h a × HandIn told h a q
 fit_of told site h d s w (ask.Next k) q known is = (subst (λ (n : ℕ). n < length site.drives.items) (sym is.drive) known, subst (λ q. HandIn told h (ask.Next k) q) (sym is.hand) tt)
 fit_of told site h d s w (ask.Claim m) q known is = (is_mount h d m is.mounted.mount is.mounted.direction is.mounted.tape is.mount is.rest.at.mount, subst (λ q. HandIn told h (ask.Claim m) q) (sym is.hand) tt)
 fit_of told site h d s w (ask.Flushed m items) q known is =
@@ -49,17 +49,17 @@ fit_of told site h d s w (ask.Recalled m job) q known is = (is.way, subst (λ q.
 fit_of told site h d s w (ask.Failed m f charged returned) q known is = ((is.cause, is.some), subst (λ q. HandIn told h (ask.Failed m f charged returned) q) (sym is.hand) tt)
 fit_of told site h d s w (ask.End m f) q known is = (
   (is_mount h d m m is.way is.tape refl is.mount, is.cause),
-  subst (λ q. HandIn told h (ask.End m f) q) (sym is.hand) (subst (λ (v : ℕ). IfSome (told is.medium) (IsTrueMedium h v)) (sym (ap tape_by is.mount.mount)) is.truth),
+  subst (λ q. HandIn told h (ask.End m f) q) (sym is.hand) (subst (λ (v : ℕ). IsMediumOf h v (told is.medium)) (sym (ap tape_by is.mount.mount)) is.truth),
 )
 fit_of told site h d s w _ q known is = absurd is
 
-pub asks_are_fit : {M : Type 0} (told : M → Option TapeRecords) → AsksAreFit told
+pub asks_are_fit : {M : Type 0} (told : M → MediumView) → AsksAreFit told
 asks_are_fit told site h d s w a q is = fit_of told site h d s w a q is.known is.asked
 
 -- ---- no ask is unknown
 
 -- what an open Failed or Recalled names is claimed
-pub resolved_known : {M : Type 0} (told : M → Option TapeRecords) (h : History) (d m : ℕ) (jobs : List Job) (s : State M) → FitsResolved told h d m jobs s → is_known h m jobs ≡ true
+pub resolved_known : {M : Type 0} (told : M → MediumView) (h : History) (d m : ℕ) (jobs : List Job) (s : State M) → FitsResolved told h d m jobs s → is_known h m jobs ≡ true
 resolved_known told h d m jobs (state.Leaving x) is = is.3.known
 resolved_known told h d m jobs (state.Reading x items at) is = is.2.known
 resolved_known told h d m jobs state.Free is = absurd is
@@ -116,7 +116,7 @@ last_self o items is = rw is (same_items_self items)
 empty_nil : (items : List Item) → items ≡ [] → is_empty items ≡ true
 empty_nil items e = rw e refl
 
-pub known_of : {M : Type 0} (told : M → Option TapeRecords) (site : Site) (h : History) (t d : ℕ) (s : State M) (w : Asked) (a : Ask) (q : Hand M) → FitsAsk told h d s w a q → is_unknown (answer_of site h t a) ≡ false
+pub known_of : {M : Type 0} (told : M → MediumView) (site : Site) (h : History) (t d : ℕ) (s : State M) (w : Asked) (a : Ask) (q : Hand M) → FitsAsk told h d s w a q → is_unknown (answer_of site h t a) ≡ false
 known_of told site h t d s w (ask.Next k) q is = next_known (is_too_heavy site h (ask.Next k) (light_answer site h (moment_of h t) (ask.Next k))) _ (is_down h k) (is_busy h k) _ (mount_choice site h (moment_of h t) k)
 known_of told site h t d s w (ask.Claim m) q is =
     claim_known (is_too_heavy site h (ask.Claim m) (light_answer site h (moment_of h t) (ask.Claim m))) (not (is_open h m)) site h (moment_of h t) (mount_of h m) _ (not_true (is_open h m) (ap (is_open h) is.mount ∙ is.rest.at.mount.still)) (ap (mount_of h) is.mount ∙ is.rest.at.mount.mount)
@@ -130,5 +130,5 @@ known_of told site h t d s w (ask.Failed m f charged returned) q is = other_know
 known_of told site h t d s w (ask.End m f) q is = other_known false _ _ (not_true _ (both_true _ _ is.mount.still (empty_nil _ is.claims))) refl
 known_of told site h t d s w _ q is = absurd is
 
-pub asks_are_known : {M : Type 0} (told : M → Option TapeRecords) → AsksAreKnown told
+pub asks_are_known : {M : Type 0} (told : M → MediumView) → AsksAreKnown told
 asks_are_known told site h t d s w a q is = λ e. (let known = known_of told site h t d s w a q is.asked in let bad : true ≡ false = ap is_unknown (sym e) ∙ known in absurd (cc))

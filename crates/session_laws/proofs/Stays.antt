@@ -4,7 +4,7 @@ use Rattle.std.specs.Prelude.{Option, Some, None, IfSome, ◌==◌, ◌&&◌}
 use Rattle.std.specs.List.{list_all}
 use Rattle.std.proofs.lemmas.Bool.{and_parts}
 use Rattle.blob.specs.declared.sum.Sum256.{Sum256}
-use Rattle.blob.specs.Records.{TapeRecords}
+use Rattle.blob.specs.Records.{MediumView, TapeRecords}
 use Rattle.cta_site.specs.declared.site.Site.{Site}
 use Rattle.cta_model.specs.declared.answers.Answer.{Answer}
 use Rattle.cta_model.specs.declared.answers.Answer.TheVariants as answer
@@ -20,7 +20,7 @@ use Rattle.cta_model.specs.Answers.{is_known, names_twice}
 use Rattle.cta_model.specs.Files.{sum_of}
 use Rattle.cta_model.specs.History.{History}
 use Rattle.cta_model.specs.Legal.{IsFaultOf, IsLegal, IsMountOf}
-use Rattle.cta_model.specs.Media.{IsTrueMedium}
+use Rattle.cta_model.specs.Media.{IsMediumOf, IsTrueMedium}
 use Rattle.cta_model.specs.Mounts.{asked_mount, batch_in, batch_or, claimed_items, has_job, is_open, item_jobs, last_batch, mount_of, tape_by, tape_of_mount, without_jobs}
 use Rattle.cta_model.specs.Tapes.{tape_items}
 use Rattle.cta_laws.specs.Mounts.{are_about_others, IsMountKept}
@@ -89,9 +89,12 @@ kept_for site newer h d m way v legal others is =
 
 -- ---- what a state says
 
-kept_medium : (g h : History) (m v : ℕ) (o : Option TapeRecords) → IsKeptFor g h m v → IfSome o (IsTrueMedium h v) → IfSome o (IsTrueMedium g v)
-kept_medium g h m v None kept is = tt
-kept_medium g h m v (Some t) kept is = kept.truth t is
+kept_records : (g h : History) (m v : ℕ) (o : Option TapeRecords) → IsKeptFor g h m v → IfSome o (IsTrueMedium h v) → IfSome o (IsTrueMedium g v)
+kept_records g h m v None kept is = tt
+kept_records g h m v (Some t) kept is = kept.truth t is
+
+kept_medium : (g h : History) (m v : ℕ) (x : MediumView) → IsKeptFor g h m v → IsMediumOf h v x → IsMediumOf g v x
+kept_medium g h m v x kept is = record { label = is.label; truth = kept_records g h m v x.records kept is.truth }
 
 kept_mount : (g h : History) (d m : ℕ) (way : Direction) (v : ℕ) → IsKeptFor g h m v → IsMountAt h d m way v → IsMountAt g d m way v
 kept_mount g h d m way v kept is = record { still = kept.still; mount = kept.mount ∙ is.mount }
@@ -100,16 +103,16 @@ pub kept_files : (g h : History) (items : List Item) → length h ≤ length g �
 kept_files g h [] longer files is = tt
 kept_files g h (i ∷ items) longer files is = ((let a = is.0 in omega (arith, a, longer)), is.1 ∙ sym (files i.job.file is.0), kept_files g h items longer files is.2)
 
-kept_at : {M : Type 0} (told : M → Option TapeRecords) (g h : History) (d : ℕ) (x : Mounted M) → IsKeptFor g h x.mount x.tape → IsAt told h d x → IsAt told g d x
+kept_at : {M : Type 0} (told : M → MediumView) (g h : History) (d : ℕ) (x : Mounted M) → IsKeptFor g h x.mount x.tape → IsAt told h d x → IsAt told g d x
 kept_at told g h d x kept is = record { mount = kept_mount g h d x.mount x.direction x.tape kept is.mount; medium = kept_medium g h x.mount x.tape (told x.medium) kept is.medium }
 
-kept_rest : {M : Type 0} (told : M → Option TapeRecords) (g h : History) (d : ℕ) (x : Mounted M) → IsKeptFor g h x.mount x.tape → IsRest told h d x → IsRest told g d x
+kept_rest : {M : Type 0} (told : M → MediumView) (g h : History) (d : ℕ) (x : Mounted M) → IsKeptFor g h x.mount x.tape → IsRest told h d x → IsRest told g d x
 kept_rest told g h d x kept is = record { at = kept_at told g h d x kept is.at; claims = kept.claims ∙ is.claims }
 
 same_count : (g h : History) (m v : ℕ) → IsKeptFor g h m v → length (tape_items h v) ≡ length (tape_items g v)
 same_count g h m v kept = sym (ap length kept.items)
 
-kept_batch : {M : Type 0} (told : M → Option TapeRecords) (g h : History) (d : ℕ) (x : Mounted M) (items : List Item) (sums : List Sum256) → IsKeptFor g h x.mount x.tape → IsBatch told h d x items sums → IsBatch told g d x items sums
+kept_batch : {M : Type 0} (told : M → MediumView) (g h : History) (d : ℕ) (x : Mounted M) (items : List Item) (sums : List Sum256) → IsKeptFor g h x.mount x.tape → IsBatch told h d x items sums → IsBatch told g d x items sums
 kept_batch told g h d x items sums kept is = record {
   at = kept_at told g h d x kept is.at;
   way = is.way;
@@ -122,20 +125,20 @@ kept_batch told g h d x items sums kept is = record {
   blobs = is.blobs;
 }
 
-kept_writing : {M : Type 0} (told : M → Option TapeRecords) (g h : History) (d : ℕ) (x : Mounted M) (b : Batch) → IsKeptFor g h x.mount x.tape → IsWriting told h d x b → IsWriting told g d x b
+kept_writing : {M : Type 0} (told : M → MediumView) (g h : History) (d : ℕ) (x : Mounted M) (b : Batch) → IsKeptFor g h x.mount x.tape → IsWriting told h d x b → IsWriting told g d x b
 kept_writing told g h d x b kept is = record {
   batch = kept_batch told g h d x b.items.items _ kept is.batch;
   filled = is.filled;
-  written = subst (λ (n : ℕ). IfSome (told x.medium) (AreWritten n b.items.items b.at)) (same_count g h x.mount x.tape kept) is.written;
+  written = subst (λ (n : ℕ). IfSome (told x.medium).records (AreWritten n b.items.items b.at)) (same_count g h x.mount x.tape kept) is.written;
 }
 
-kept_unread : {M : Type 0} (told : M → Option TapeRecords) (g h : History) (d : ℕ) (x : Mounted M) (items : List Item) → IsKeptFor g h x.mount x.tape → IsUnread told h d x items → IsUnread told g d x items
+kept_unread : {M : Type 0} (told : M → MediumView) (g h : History) (d : ℕ) (x : Mounted M) (items : List Item) → IsKeptFor g h x.mount x.tape → IsUnread told h d x items → IsUnread told g d x items
 kept_unread told g h d x items kept is = record { at = kept_at told g h d x kept is.at; way = is.way; once = is.once; files = kept_files g h items kept.longer kept.files is.files; safe = is.safe }
 
-kept_reading : {M : Type 0} (told : M → Option TapeRecords) (g h : History) (d : ℕ) (x : Mounted M) (items : List Item) → IsKeptFor g h x.mount x.tape → IsReading told h d x items → IsReading told g d x items
+kept_reading : {M : Type 0} (told : M → MediumView) (g h : History) (d : ℕ) (x : Mounted M) (items : List Item) → IsKeptFor g h x.mount x.tape → IsReading told h d x items → IsReading told g d x items
 kept_reading told g h d x items kept is = record { unread = kept_unread told g h d x items kept is.unread; claims = kept.claims ∙ is.claims }
 
-pub session_stays : {M : Type 0} (told : M → Option TapeRecords) → SessionStays told
+pub session_stays : {M : Type 0} (told : M → MediumView) → SessionStays told
 session_stays told site newer h d state.Free legal others is = record { known = is.known; state = tt }
 session_stays told site newer h d (state.Held x) legal others is =
     let r : IsRest told h d x = is.state in
@@ -170,7 +173,7 @@ kept_resolving g h m v jobs rest still kept is = record {
   left = ap (without_jobs jobs) kept.claims ∙ is.left;
 }
 
-kept_flushing : {M : Type 0} (told : M → Option TapeRecords) (g h : History) (d : ℕ) (x : Mounted M) (items : List Item) → IsKeptFor g h x.mount x.tape → IsFlushing told h d x items → IsFlushing told g d x items
+kept_flushing : {M : Type 0} (told : M → MediumView) (g h : History) (d : ℕ) (x : Mounted M) (items : List Item) → IsKeptFor g h x.mount x.tape → IsFlushing told h d x items → IsFlushing told g d x items
 kept_flushing told g h d x items kept is = record {
   at = kept_at told g h d x kept is.at;
   way = is.way;
@@ -178,11 +181,11 @@ kept_flushing told g h d x items kept is = record {
   last = kept.last ∙ is.last;
   numbered = subst (λ (n : ℕ). AreNumbered (n + 1) items) (same_count g h x.mount x.tape kept) is.numbered;
   files = kept_files g h items kept.longer kept.files is.files;
-  safe = subst (λ (n : ℕ). IfSome (told x.medium) (AreFlushed n items)) (same_count g h x.mount x.tape kept) is.safe;
+  safe = subst (λ (n : ℕ). IfSome (told x.medium).records (AreFlushed n items)) (same_count g h x.mount x.tape kept) is.safe;
 }
 
 -- what a state with an open Failed or Recalled says of its mount
-resolved_stays : {M : Type 0} (told : M → Option TapeRecords) (site : Site) (newer h : History) (d m : ℕ) (jobs : List Job) (s : State M) → IsLegal site (newer ++ h) → are_about_others m newer ≡ true → FitsResolved told h d m jobs s → FitsResolved told (newer ++ h) d m jobs s
+resolved_stays : {M : Type 0} (told : M → MediumView) (site : Site) (newer h : History) (d m : ℕ) (jobs : List Job) (s : State M) → IsLegal site (newer ++ h) → are_about_others m newer ≡ true → FitsResolved told h d m jobs s → FitsResolved told (newer ++ h) d m jobs s
 resolved_stays told site newer h d m jobs (state.Leaving x) legal others is =
     let here : are_about_others x.mount newer ≡ true = subst (λ (k : ℕ). are_about_others k newer ≡ true) is.0 others in
     let kept = kept_for site newer h d x.mount x.direction x.tape legal here is.2.mount in (
@@ -206,7 +209,7 @@ resolved_stays told site newer h d m jobs (state.Claimed x items blobs) legal ot
 resolved_stays told site newer h d m jobs (state.Writing x b) legal others is = absurd is
 
 -- the mount of what is resolved is open
-pub resolved_open : {M : Type 0} (told : M → Option TapeRecords) (h : History) (d m : ℕ) (jobs : List Job) (s : State M) → FitsResolved told h d m jobs s → is_open h m ≡ true
+pub resolved_open : {M : Type 0} (told : M → MediumView) (h : History) (d m : ℕ) (jobs : List Job) (s : State M) → FitsResolved told h d m jobs s → is_open h m ≡ true
 resolved_open told h d m jobs (state.Leaving x) is = subst (λ (k : ℕ). is_open h k ≡ true) (sym is.0) is.2.mount.still
 resolved_open told h d m jobs (state.Reading x items at) is = subst (λ (k : ℕ). is_open h k ≡ true) (sym is.0) is.1.at.mount.still
 resolved_open told h d m jobs state.Free is = absurd is
@@ -215,7 +218,7 @@ resolved_open told h d m jobs (state.Ready x) is = absurd is
 resolved_open told h d m jobs (state.Claimed x items blobs) is = absurd is
 resolved_open told h d m jobs (state.Writing x b) is = absurd is
 
-claim_stays : {M : Type 0} (told : M → Option TapeRecords) (site : Site) (newer h : History) (d : ℕ) (s : State M) (w : Asked) (m : ℕ) (q : Hand M) → IsLegal site (newer ++ h) → are_about_others m newer ≡ true → FitsClaim told h d s w m q → FitsClaim told (newer ++ h) d s w m q
+claim_stays : {M : Type 0} (told : M → MediumView) (site : Site) (newer h : History) (d : ℕ) (s : State M) (w : Asked) (m : ℕ) (q : Hand M) → IsLegal site (newer ++ h) → are_about_others m newer ≡ true → FitsClaim told h d s w m q → FitsClaim told (newer ++ h) d s w m q
 claim_stays told site newer h d s w m q legal others is =
     let x = is.mounted in
     let here : are_about_others x.mount newer ≡ true = subst (λ (k : ℕ). are_about_others k newer ≡ true) is.mount others in
@@ -228,7 +231,7 @@ claim_stays told site newer h d s w m q legal others is =
       rest = kept_rest told (newer ++ h) h d x (kept_for site newer h d x.mount x.direction x.tape legal here is.rest.at.mount) is.rest;
     }
 
-flushed_stays : {M : Type 0} (told : M → Option TapeRecords) (site : Site) (newer h : History) (d : ℕ) (s : State M) (w : Asked) (m : ℕ) (items : List Item) (q : Hand M) → IsLegal site (newer ++ h) → are_about_others m newer ≡ true → FitsFlushed told h d s w m items q → FitsFlushed told (newer ++ h) d s w m items q
+flushed_stays : {M : Type 0} (told : M → MediumView) (site : Site) (newer h : History) (d : ℕ) (s : State M) (w : Asked) (m : ℕ) (items : List Item) (q : Hand M) → IsLegal site (newer ++ h) → are_about_others m newer ≡ true → FitsFlushed told h d s w m items q → FitsFlushed told (newer ++ h) d s w m items q
 flushed_stays told site newer h d s w m items q legal others is =
     let x = is.mounted in
     let here : are_about_others x.mount newer ≡ true = subst (λ (k : ℕ). are_about_others k newer ≡ true) is.mount others in
@@ -245,7 +248,7 @@ flushed_stays told site newer h d s w m items q legal others is =
 same_mount : (newer h : History) (m : ℕ) → is_open h m ≡ true → mount_of (newer ++ h) m ≡ mount_of h m
 same_mount newer h m still = mount_long newer h m (open_older h m still)
 
-recalled_stays : {M : Type 0} (told : M → Option TapeRecords) (site : Site) (newer h : History) (d : ℕ) (s : State M) (w : Asked) (m : ℕ) (job : Job) (q : Hand M) → IsLegal site (newer ++ h) → are_about_others m newer ≡ true → FitsRecalled told h d s w m job q → FitsRecalled told (newer ++ h) d s w m job q
+recalled_stays : {M : Type 0} (told : M → MediumView) (site : Site) (newer h : History) (d : ℕ) (s : State M) (w : Asked) (m : ℕ) (job : Job) (q : Hand M) → IsLegal site (newer ++ h) → are_about_others m newer ≡ true → FitsRecalled told h d s w m job q → FitsRecalled told (newer ++ h) d s w m job q
 recalled_stays told site newer h d s w m job q legal others is =
     let still = resolved_open told h d m (job ∷ []) s is.resolved in
     record {
@@ -258,7 +261,7 @@ recalled_stays told site newer h d s w m job q legal others is =
       resolved = resolved_stays told site newer h d m (job ∷ []) s legal others is.resolved;
     }
 
-failed_stays : {M : Type 0} (told : M → Option TapeRecords) (site : Site) (newer h : History) (d : ℕ) (s : State M) (w : Asked) (m : ℕ) (f : Fault) (charged returned : List Job) (q : Hand M) → IsLegal site (newer ++ h) → are_about_others m newer ≡ true
+failed_stays : {M : Type 0} (told : M → MediumView) (site : Site) (newer h : History) (d : ℕ) (s : State M) (w : Asked) (m : ℕ) (f : Fault) (charged returned : List Job) (q : Hand M) → IsLegal site (newer ++ h) → are_about_others m newer ≡ true
     → FitsFailed told h d s w m f charged returned q → FitsFailed told (newer ++ h) d s w m f charged returned q
 failed_stays told site newer h d s w m f charged returned q legal others is =
     let still = resolved_open told h d m (charged ++ returned) s is.resolved in
@@ -271,7 +274,7 @@ failed_stays told site newer h d s w m f charged returned q legal others is =
       resolved = resolved_stays told site newer h d m (charged ++ returned) s legal others is.resolved;
     }
 
-end_stays : {M : Type 0} (told : M → Option TapeRecords) (site : Site) (newer h : History) (d : ℕ) (s : State M) (w : Asked) (m : ℕ) (f : Option Fault) (q : Hand M) → IsLegal site (newer ++ h) → are_about_others m newer ≡ true → FitsEnd told h d s w m f q → FitsEnd told (newer ++ h) d s w m f q
+end_stays : {M : Type 0} (told : M → MediumView) (site : Site) (newer h : History) (d : ℕ) (s : State M) (w : Asked) (m : ℕ) (f : Option Fault) (q : Hand M) → IsLegal site (newer ++ h) → are_about_others m newer ≡ true → FitsEnd told h d s w m f q → FitsEnd told (newer ++ h) d s w m f q
 end_stays told site newer h d s w m f q legal others is =
     let kept = kept_for site newer h d m is.way is.tape legal others is.mount in
     record {
@@ -288,7 +291,7 @@ end_stays told site newer h d s w m f q legal others is =
       truth = kept_medium (newer ++ h) h m is.tape (told is.medium) kept is.truth;
     }
 
-ask_stays : {M : Type 0} (told : M → Option TapeRecords) (site : Site) (newer h : History) (d : ℕ) (s : State M) (w : Asked) (a : Ask) (q : Hand M) → IsLegal site (newer ++ h) → AreOthersThan a newer → FitsAsk told h d s w a q → FitsAsk told (newer ++ h) d s w a q
+ask_stays : {M : Type 0} (told : M → MediumView) (site : Site) (newer h : History) (d : ℕ) (s : State M) (w : Asked) (a : Ask) (q : Hand M) → IsLegal site (newer ++ h) → AreOthersThan a newer → FitsAsk told h d s w a q → FitsAsk told (newer ++ h) d s w a q
 ask_stays told site newer h d s w (ask.Next k) q legal others is = is
 ask_stays told site newer h d s w (ask.Claim m) q legal others is = claim_stays told site newer h d s w m q legal others is
 ask_stays told site newer h d s w (ask.Flushed m items) q legal others is = flushed_stays told site newer h d s w m items.items q legal others is
@@ -297,5 +300,5 @@ ask_stays told site newer h d s w (ask.Failed m f charged returned) q legal othe
 ask_stays told site newer h d s w (ask.End m f) q legal others is = end_stays told site newer h d s w m f q legal others is
 ask_stays told site newer h d s w _ q legal others is = absurd is
 
-pub asking_session_stays : {M : Type 0} (told : M → Option TapeRecords) → AskingSessionStays told
+pub asking_session_stays : {M : Type 0} (told : M → MediumView) → AskingSessionStays told
 asking_session_stays told site newer h d s w a q legal others is = record { known = is.known; asked = ask_stays told site newer h d s w a q legal others is.asked }

@@ -1,6 +1,6 @@
 -- Laws of sessions over legal histories.
 use Rattle.std.specs.Prelude.{ℕ, ◌≡◌, ◌≢◌, ◌≤◌, ⊤, ◌++◌, Option, true}
-use Rattle.blob.specs.Records.{TapeRecords}
+use Rattle.blob.specs.Records.{MediumView}
 use Rattle.cta_site.specs.declared.site.Site.{Site}
 use Rattle.cta_model.specs.declared.answers.Answer.TheVariants as answer
 use Rattle.cta_model.specs.declared.answers.Refusal.TheVariants as refusal
@@ -40,35 +40,35 @@ AreOthersThan (ask.End m fault) newer = are_about_others m newer ≡ true
 AreOthersThan _ newer = ⊤
 
 -- a session without an open ask that fits a history fits each longer legal one whose new entries are not about its mount
-abbrev pub SessionStays : {M : Type 0} → (M → Option TapeRecords) → Type 0
+abbrev pub SessionStays : {M : Type 0} → (M → MediumView) → Type 0
 SessionStays {M = M} told =
     (site : Site) (newer h : History) (d : ℕ) (s : State M) → IsLegal site (newer ++ h) → AreOthers s newer → FitsState told site h d s → FitsState told site (newer ++ h) d s
 
 -- the same of a session with an open ask
-abbrev pub AskingSessionStays : {M : Type 0} → (M → Option TapeRecords) → Type 0
+abbrev pub AskingSessionStays : {M : Type 0} → (M → MediumView) → Type 0
 AskingSessionStays {M = M} told =
     (site : Site) (newer h : History) (d : ℕ) (s : State M) (w : Asked) (a : Ask) (k : Hand M) → IsLegal site (newer ++ h) → AreOthersThan a newer
     → FitsOpen told site h d s w a k → FitsOpen told site (newer ++ h) d s w a k
 
 -- what a session that fits asks is what a session may ask, with what the archive expects
-abbrev pub AsksAreFit : {M : Type 0} → (M → Option TapeRecords) → Type 0
+abbrev pub AsksAreFit : {M : Type 0} → (M → MediumView) → Type 0
 AsksAreFit {M = M} told =
     (site : Site) (h : History) (d : ℕ) (s : State M) (w : Asked) (a : Ask) (k : Hand M) → FitsOpen told site h d s w a k → IsFit site h a × HandIn told h a k
 
 -- no ask of a session that fits is unknown
-abbrev pub AsksAreKnown : {M : Type 0} → (M → Option TapeRecords) → Type 0
+abbrev pub AsksAreKnown : {M : Type 0} → (M → MediumView) → Type 0
 AsksAreKnown {M = M} told =
     (site : Site) (h : History) (t d : ℕ) (s : State M) (w : Asked) (a : Ask) (k : Hand M) → FitsOpen told site h d s w a k → answer_of site h t a ≢ answer.Refused refusal.Unknown
 
 -- after an answer of the sequential archive the session fits the history behind the ask
-abbrev pub AnsweredSessionFits : {M : Type 0} → (M → Option TapeRecords) → Type 0
+abbrev pub AnsweredSessionFits : {M : Type 0} → (M → MediumView) → Type 0
 AnsweredSessionFits {M = M} told =
     (site : Site) (h : History) (t d : ℕ) (s : State M) (w : Asked) (a : Ask) (k out : Hand M) → IsLegal site h → t ≤ greatest_moment → FitsOpen told site h d s w a k
     → HandBack told (is_accepted (answer_of site h t a)) h (history_after site h t a) a (answer_of site h t a) k out
     → FitsState told site (history_after site h t a) d (state_after w s (answer_of site h t a) out)
 
 -- what comes back from an ask of a session that fits goes with the answer of the sequential archive, so that the phase of the session tells where it leads
-abbrev pub AnswersComeWithHands : {M : Type 0} → (M → Option TapeRecords) → Type 0
+abbrev pub AnswersComeWithHands : {M : Type 0} → (M → MediumView) → Type 0
 AnswersComeWithHands {M = M} told =
     (site : Site) (h : History) (t d : ℕ) (s : State M) (w : Asked) (a : Ask) (k out : Hand M) → FitsOpen told site h d s w a k
     → HandBack told (is_accepted (answer_of site h t a)) h (history_after site h t a) a (answer_of site h t a) k out → GoesWith w s (answer_of site h t a) out

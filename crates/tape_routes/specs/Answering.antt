@@ -42,7 +42,7 @@ FitsAsked kept moment (Replies reply) content = content ≡ None
 
 -- what is kept then
 unfoldable pub kept_then : Kept → ℕ → Asked → Kept
-kept_then kept moment (Asks ask sent) = kept_after kept moment ask (answer_of kept.site kept.history moment ask)
+kept_then kept moment (Asks ask sent) = kept_after kept moment ask (answer_of kept.site kept.history moment ask) None
 kept_then kept moment (Looks look) = kept
 kept_then kept moment (Replies reply) = kept
 

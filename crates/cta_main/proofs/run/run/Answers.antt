@@ -5,5 +5,4 @@ use Rattle.cta_main.proofs.run.run.Goals as goal
 pub returns : goal.returns
 returns g c =
     let ended = c.replay_top-status in
-    let behind = sym c.words_of-words.ensures in
-    (ended.result, (rw behind ended.ensures.runs, rw behind ended.ensures.whole), c.end_with.ensures)
+    (ended.result, rw (sym c.words_of-words.ensures) ended.ensures, c.end_with.ensures)

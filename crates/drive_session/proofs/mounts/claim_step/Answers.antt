@@ -6,6 +6,7 @@ pub returns-clause-step : goal.returns-clause-step
 returns-clause-step g c = record {
   device = refl;
   read = tt;
+  left = refl;
   loaded = c.requires.loaded;
   waits = refl;
   table = refl;

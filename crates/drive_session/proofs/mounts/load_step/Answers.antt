@@ -7,6 +7,7 @@ pub returns-in-Ok : goal.returns-in-Ok
 returns-in-Ok g c = record {
   device = c.in-Ok.ensures.drive;
   read = tt;
+  left = c.load.ensures.records;
   loaded = c.in-Ok.ensures.drive.loaded;
   waits = refl;
   table = refl;
@@ -24,6 +25,7 @@ returns-in-Err g c =
     record {
       device = answered;
       read = tt;
+      left = c.load.ensures.records;
       loaded = answered.loaded ∙ c.requires.loaded;
       waits = refl;
       table = refl;

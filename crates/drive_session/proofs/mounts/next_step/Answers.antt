@@ -6,6 +6,7 @@ pub returns : goal.returns
 returns g c = record {
   device = refl;
   read = tt;
+  left = tt;
   loaded = c.requires;
   waits = refl;
   table = refl;

@@ -7,6 +7,7 @@ pub returns-in-Ok : goal.returns-in-Ok
 returns-in-Ok g c = record {
   device = c.in-Ok.ensures.drive;
   read = tt;
+  left = c.unload.ensures.records;
   loaded = c.unload.ensures.drive.loaded;
   waits = refl;
   table = refl;
@@ -22,6 +23,7 @@ pub returns-in-Err : goal.returns-in-Err
 returns-in-Err g c = record {
   device = answered_by _ _ _ _ _ (only_fault c.unload.result c.in-Err.field-0 c.in-Err.is c.unload.ensures.memory) c.unload.ensures.drive;
   read = tt;
+  left = c.unload.ensures.records;
   loaded = c.unload.ensures.drive.loaded;
   waits = refl;
   table = refl;

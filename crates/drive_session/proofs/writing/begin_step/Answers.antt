@@ -15,6 +15,7 @@ returns-in-Ok g c =
     record {
       device = w.device;
       read = w.read;
+      left = w.left;
       loaded = w.loaded;
       waits = w.waits;
       table = w.table;
@@ -30,6 +31,7 @@ pub returns-in-Err : goal.returns-in-Err
 returns-in-Err g c = record {
   device = refl;
   read = tt;
+  left = refl;
   loaded = c.requires.loaded;
   waits = refl;
   table = unbegun_row (held_mount c.args.x) c.args.items.items c.requires.fits.1.1.state.some;

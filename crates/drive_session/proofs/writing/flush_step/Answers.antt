@@ -9,6 +9,7 @@ pub returns-in-Ok : goal.returns-in-Ok
 returns-in-Ok g c = record {
   device = c.in-Ok.ensures.drive;
   read = tt;
+  left = c.in-Ok.ensures.records;
   loaded = c.in-Ok.ensures.drive.loaded ∙ c.requires.loaded;
   waits = refl;
   table = flushed_row (held_mount c.args.x) c.args.b.items.items c.args.b.at c.requires.all;
@@ -28,6 +29,7 @@ returns-in-Err g c =
     (record {
       device = answered_by _ _ _ _ _ fault c.flush.ensures.drive;
       read = tt;
+      left = flush_records _ _ _ fault c.flush.ensures.records;
       loaded = loaded_flush _ _ _ c.flush.ensures.drive c.requires.loaded;
       waits = refl;
       table = flush_failed_row (held_mount c.args.x) c.args.b.items.items c.args.b.at _ _ c.requires.all charges;

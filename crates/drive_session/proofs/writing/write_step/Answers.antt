@@ -1,5 +1,5 @@
 use Rattle.std.proofs.Common.{◌≡◌, refl, sym, ◌∙◌, ap}
-use Rattle.std.specs.Prelude.{slice_get, Some}
+use Rattle.std.specs.Prelude.{slice_get, Some, None}
 use Rattle.std.proofs.lemmas.Option.{slice_get_within}
 use Rattle.cta_model.specs.Hands.{sum_of_blob}
 use Rattle.media.specs.Drives.{error_of}
@@ -8,7 +8,7 @@ use Rattle.drive_session.proofs.Lawful.{write_follows, write_fails}
 use Rattle.drive_session.specs.Lawful.{Again}
 use Rattle.drive_session.specs.Table.{held_mount}
 use Rattle.drive_session.proofs.Tapes.{may_write}
-use Rattle.drive_session.proofs.Steps.{write_fits, write_charges, write_fault_fits, write_waits, loaded_write, write_records, parted_of, fault_left, memory_left, answered_by}
+use Rattle.drive_session.proofs.Steps.{left_unwritten, left_written, write_fits, write_charges, write_fault_fits, write_left, write_waits, loaded_write, write_records, parted_of, fault_left, memory_left, answered_by}
 use Rattle.drive_session.proofs.Table.{unwritten_row, write_failed_row, written_row}
 use Rattle.drive_session.proofs.writing.write_step.Goals as goal
 
@@ -24,6 +24,7 @@ returns-in-Ok g c =
     (record {
       device = c.in-Ok.ensures.drive;
       read = tt;
+      left = left_written _ c.in-Some.item _ _ there (write_left g.D.Medium.Told.told c.args.number c.args.x c.args.b c.in-Some.item c.index-as_slice-b.result _ None there (rw c.as_slice-2.ensures at c.index-as_slice-b.is) c.requires.fits c.in-Ok.ensures.records);
       loaded = c.in-Ok.ensures.drive.loaded ∙ c.requires.loaded;
       waits = refl;
       table = written_row (held_mount c.args.x) c.args.b.items.items c.args.b.at c.in-Some.item there;
@@ -45,6 +46,7 @@ returns-then-is_no_memory g c =
     (record {
       device = (tt, answered.memory refl);
       read = tt;
+      left = same;
       loaded = answered.loaded ∙ c.requires.loaded;
       waits = refl;
       table = unwritten_row (held_mount c.args.x) c.args.b.items.items c.args.b.at c.in-Some.item there;
@@ -65,6 +67,7 @@ returns-else-is_no_memory g c =
     (record {
       device = answered_by _ _ _ _ _ fault c.write-answer.ensures.drive;
       read = tt;
+      left = left_unwritten _ c.in-Some.item _ _ there (write_left g.D.Medium.Told.told c.args.number c.args.x c.args.b c.in-Some.item c.index-as_slice-b.result _ (Some err.Fault) there (rw c.as_slice-2.ensures at c.index-as_slice-b.is) c.requires.fits (write_records _ _ _ _ _ _ fault c.write-answer.ensures.records));
       loaded = loaded_write _ _ _ c.write-answer.ensures.drive c.requires.loaded;
       waits = refl;
       table = write_failed_row (held_mount c.args.x) c.args.b.items.items c.args.b.at c.in-Some.item _ _ there charges;

@@ -2,8 +2,11 @@ use Rattle.std.proofs.Common.{not, ap, ◌∙◌}
 use Rattle.cta_model.specs.declared.answers.Answer.TheVariants as answer
 use Rattle.media.specs.Memory.{mem_drive}
 use Rattle.drive_tests.specs.OneRecord.{history}
-use Rattle.drive_tests.proofs.Reading.{step_fits}
+use Rattle.drive_tests.proofs.Reading.{may_work, step_fits}
 use Rattle.drive_tests.proofs.mismatch_tests.loads.Goals as goal
+
+pub work-report-requires-clause-fits : goal.work-report-requires-clause-fits
+work-report-requires-clause-fits c = λ κs. may_work c.args.site.now c.args.sum answer.Nothing c.args.session.now c.requires.fits
 
 pub returns-then-quiet-clause-fits : goal.returns-then-quiet-clause-fits
 returns-then-quiet-clause-fits c = λ told.

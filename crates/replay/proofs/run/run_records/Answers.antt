@@ -8,7 +8,7 @@ use Rattle.replay.proofs.run.run_records.Goals as goal
 
 pub records-init : goal.records-init
 records-init g c = record {
-  ran = Ran-none g.D.Medium.Told.told c.args.front.now.links c.args.front.now.desk.run _ c.requires.links;
+  ran = Ran-none c.args.front.now.links c.args.front.now.desk.run _ c.requires.links;
   ready = c.requires.ready;
   reads = omega arith;
   writes = omega arith;
@@ -20,16 +20,16 @@ returns-in-Some g c = λ tells site starts.
     let h = c.records.invariant in
     let run = c.args.front.now.desk.run in
     let stand = subst (λ s. StandFor c.records.front.links s.limits.file (links_turns h.ran.turns)) (sym (same_site h.ran)) h.ran.stands in
-    let f = Ran-ends g.D.Medium.Told.told c.runs_follow.ensures c.records.front.links run c.records.front.desk.run _ _ _ c.in-Some.status h.ran h.reads h.writes (c.in-Some.ensures.turns (links_turns h.ran.turns) stand) in
+    let f = Ran-ends c.runs_follow.ensures c.records.front.links run c.records.front.desk.run _ _ _ c.in-Some.status h.ran h.reads h.writes (c.in-Some.ensures.turns (links_turns h.ran.turns) stand) in
     let valid : IsWellFormed run.site = subst IsWellFormed c.site.ensures c.keeps_rules.ensures.parts in
-    replays_from g.D.Medium.Told.told tells site c.args.front.now.desk starts c.runs_keep_promises.ensures _ _ _ _ c.one_record.new.taken c.in-Some.status valid c.one_record.ensures.within f
+    replays_from tells site c.args.front.now.desk starts c.runs_keep_promises.ensures _ _ _ _ c.one_record.new.taken c.in-Some.status valid c.one_record.ensures.within f
 
 pub records-preserved : goal.records-preserved
 records-preserved g c =
     let h = c.records.invariant in
     let stand = subst (λ s. StandFor c.records.front.links s.limits.file (links_turns h.ran.turns)) (sym (same_site h.ran)) h.ran.stands in
     record {
-      ran = Ran-more g.D.Medium.Told.told c.records.front.links _ c.args.front.now.desk.run c.records.front.desk.run _ _ _ _ h.ran (c.in_default.ensures.turns (links_turns h.ran.turns) stand);
+      ran = Ran-more c.records.front.links _ c.args.front.now.desk.run c.records.front.desk.run _ _ _ _ h.ran (c.in_default.ensures.turns (links_turns h.ran.turns) stand);
       ready = c.in_default.ensures.ready;
       reads = omega arith;
       writes = omega arith;

@@ -6,7 +6,7 @@ use Rattle.replay.proofs.run.run_records.Given as goal
 
 abbrev pub invariant-records : goal.invariant-records
 invariant-records g l = record {
-  ran : Ran g.D.Medium.Told.told l.front.links l.initial.front.desk.run l.front.desk.run
+  ran : Ran l.front.links l.initial.front.desk.run l.front.desk.run
       (world (script_view (g.S.Source.left l.initial.script) 0 (g.S.Source.faults l.initial.script)) (sink_view (g.K.Sink.written l.initial.out) (g.K.Sink.faults l.initial.out)))
       (world (script_view (g.S.Source.left l.script) l.taken (g.S.Source.faults l.script)) (sink_view (g.K.Sink.written l.out) (g.K.Sink.faults l.out)));
   ready : l.front.desk.ready ≡ true;

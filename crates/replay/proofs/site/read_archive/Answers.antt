@@ -1,12 +1,12 @@
 use Rattle.std.proofs.Common.{subst, inl, arith}
-use Rattle.replay.specs.SiteFile.{ArchiveMade}
+use Rattle.replay.specs.SiteReading.{ArchiveMade}
 use Rattle.replay.proofs.Sites.{site_read, too_long}
 use Rattle.replay.proofs.site.read_archive.Goals as goal
 
 pub returns-in-Whole-clause-read : goal.returns-in-Whole-clause-read
 returns-in-Whole-clause-read g c =
     let t = c.in-Whole.ensures in
-    site_read c.archive_of.result _ _ _ t.0 t.1 t.2 (subst (ArchiveMade c.archive_of.result) c.deref.ensures.value c.archive_of.ensures.made)
+    site_read (g.B.Bench.tells c.args.bench.now) c.archive_of.result _ _ _ t.0 t.1 t.2 (subst (ArchiveMade (g.B.Bench.tells c.args.bench.now) c.archive_of.result) c.deref.ensures.value c.archive_of.ensures.made)
 
 pub returns-in-Long-clause-read : goal.returns-in-Long-clause-read
 returns-in-Long-clause-read g c = let t = c.in-Long.ensures in (_, t.0, inl t.1, too_long _ (omega (arith, t.1)))

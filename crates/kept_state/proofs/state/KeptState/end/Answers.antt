@@ -1,6 +1,6 @@
 use Rattle.std.proofs.Common.{◌∙◌, sym, ap}
 use Rattle.std.specs.Prelude.{is_some, option_map}
-use Rattle.kept_state.proofs.Mounted.{row_missing, row_tape_low, state_ends}
+use Rattle.kept_state.proofs.Mounted.{end_keeps, row_missing, row_tape_low, state_ends}
 use Rattle.kept_state.proofs.state.KeptState.end.Goals as goal
 
 pub unreachable-requires : goal.unreachable-requires
@@ -18,4 +18,10 @@ pub invariant_of-self : goal.invariant_of-self
 invariant_of-self g c =
     state_ends c.self.inside.site c.self.inside.history.value c.end_mount.new.history.value c.args.at c.args.mount c.args.fault _ c.self.inside.parts c.end_mount.new.parts c.self.inside.shelf c.put.new.self c.in-Some.row.now (g.M.Told.told c.args.medium)
     c.self.invariant c.requires.at (rw (← c.self.view_is) at c.requires.fit, c.requires.fault) (rw (← c.self.view_is) at c.requires.accepted) c.in-Ok.ensures.answer c.in-Ok.ensures.entry c.in-Ok.ensures.kept
-    (sym c.find.ensures.row ∙ ap (option_map (λ row. row.now)) c.in-Some.is) (rw (← c.self.view_is) at c.requires.medium) c.put.ensures.places c.put.ensures.many
+    (sym c.find.ensures.row ∙ ap (option_map (λ row. row.now)) c.in-Some.is) (rw (← c.self.view_is) at c.requires.medium) c.put.ensures
+
+pub returns-in-Ok-clause-kept : goal.returns-in-Ok-clause-kept
+returns-in-Ok-clause-kept g c =
+    rw (← c.self.view_is)
+    (end_keeps c.self.inside.site c.self.inside.history.value c.end_mount.new.history.value c.args.at c.args.mount c.args.fault _ c.self.inside.parts c.self.inside.shelf c.put.new.self c.in-Some.row.now (g.M.Told.told c.args.medium)
+    c.self.invariant.parts (rw (← c.self.view_is) at c.requires.accepted) c.in-Ok.ensures.answer c.in-Ok.ensures.entry (sym c.find.ensures.row ∙ ap (option_map (λ row. row.now)) c.in-Some.is) (rw (← c.self.view_is) at c.requires.medium) c.put.ensures)

@@ -9,8 +9,8 @@ invariant_of-self-2 g c ready =
 
 pub returns-clause-text : goal.returns-clause-text
 returns-clause-text g c =
-    desk_text c.self.inside.service.archive c.self.inside.sessions.items (map g.D.TapeDrive.seen c.self.inside.drives.items) c.self.inside.ready c.args.self.now c.self.view_is c.args.moment c.args.request c.in_ok-text.text.items c.in_ok-text.ensures.text
+    desk_text g.D.Medium.Told.told c.self.inside.service.archive c.self.inside.sessions.items (map g.D.TapeDrive.seen c.self.inside.drives.items) c.self.inside.ready c.args.self.now c.self.view_is c.args.moment c.args.request c.in_ok-text.text.items c.in_ok-text.ensures.text
 
 pub returns-clause-kept : goal.returns-clause-kept
 returns-clause-kept g c =
-    desk_kept c.self.inside.service.archive c.self.inside.sessions.items (map g.D.TapeDrive.seen c.self.inside.drives.items) c.self.inside.ready c.args.self.now c.self.view_is c.args.moment c.args.request c.answer.new.self.archive c.in_ok-text.ensures.kept
+    desk_kept g.D.Medium.Told.told c.self.inside.service.archive c.self.inside.sessions.items (map g.D.TapeDrive.seen c.self.inside.drives.items) c.self.inside.ready c.args.self.now c.self.view_is c.args.moment c.args.request c.answer.new.self.archive c.in_ok-text.ensures.kept
