@@ -1,4 +1,8 @@
-pub use Rattle.archive_answers.specs.Kept
-pub use Rattle.archive_answers.specs.Shelf
+pub use Rattle.archive_state.specs.States
+pub use Rattle.archive_state.specs.Shelf
 pub mod InOrder
 pub mod OwnMounts
+pub mod Refusals
+pub mod FileRefusals
+pub mod StageRefusals
+pub mod AdminRefusals

@@ -1,13 +1,13 @@
 // The archive.
 ghost use Rattle.std.specs.Prelude.{◌≡◌, [], IfOk, Some, map};
 ghost use Rattle.cta_model.specs.Legal.{IsLegal};
-ghost use Rattle.archive_answers.specs.Kept.{AreFirstMedia, AreShelved};
-ghost use Rattle.history_laws.specs.Holding.{HoldsLaws};
+ghost use Rattle.archive_state.specs.States.{AreFirstMedia, AreShelved};
+ghost use Rattle.cta_laws.specs.Holding.{HoldsLaws};
 
-use archive_answers::KeptState;
+use archive_state::ArchiveState;
+use cta_laws::legal_histories_hold;
 use cta_model::{NoMemory, Told};
 use cta_site::ValidSite;
-use history_laws::legal_histories_hold;
 use std::alloc::Global;
 use std::hash::RandomState;
 use std::marker::Model;
@@ -18,7 +18,7 @@ use std::marker::Model;
 #[derive(Drop)]
 pub struct Archive<M: Told + Drop> {
     pub(crate) alloc: Global,
-    pub(crate) state: KeptState<M>,
+    pub(crate) state: ArchiveState<M>,
 }
 
 impl<M: Told + Drop> Model for Archive<M> {
@@ -41,7 +41,7 @@ impl<M: Told + Drop> Archive<M> {
         requires { AreFirstMedia M.told site media.items }
         ensures { IfOk result (λ archive. archive ≡ record { site = site; history = []; shelf = map (λ m. Some (M.told m)) media.items }) }
     {
-        let state = KeptState::new(alloc, site, media, keys)?;
+        let state = ArchiveState::new(alloc, site, media, keys)?;
         Ok(Archive { alloc, state })
     }
 

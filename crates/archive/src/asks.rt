@@ -10,17 +10,30 @@ ghost use Rattle.cta_model.specs.Legal.{IsEndFault, IsFit, IsMount, IsMountOf, g
 ghost use Rattle.cta_model.specs.Mounts.{mount_of};
 
 use crate::archive::Archive;
-use archive_answers::{
-    KeptState, cancel, claim, delete, drive_down, drive_up, drop_request, end, failed, flushed,
-    next, put, recalled, reclaim, release, repack, retry, set_tape_state, stage,
-};
+use crate::cancels::cancel;
+use crate::claims::claim;
+use crate::deletes::delete;
+use crate::drives::{drive_down, drive_up};
+use crate::drops::drop_request;
+use crate::ends::end;
+use crate::faults::failed;
+use crate::flushes::flushed;
+use crate::nexts::next;
+use crate::puts::put;
+use crate::recalls::recalled;
+use crate::releases::release;
+use crate::repacks::repack;
+use crate::retries::retry;
+use crate::stages::stage;
+use crate::tapes::{reclaim, set_tape_state};
+use archive_state::ArchiveState;
 use blob::Sum256;
 use cta_model::{Answer, Ask, Fault, Hand, Job, NoMemory, Told, Who};
 use cta_site::Text;
 
 // A Put with its hand, which is its content.
 fn put_with<M: Told + Drop>(
-    state: &mut KeptState<M>,
+    state: &mut ArchiveState<M>,
     at: u64,
     who: Who,
     path: Text,
@@ -43,7 +56,7 @@ fn put_with<M: Told + Drop>(
 
 // A Recalled with its hand, which is the content of its file.
 fn recalled_with<M: Told + Drop>(
-    state: &mut KeptState<M>,
+    state: &mut ArchiveState<M>,
     at: u64,
     mount: u32,
     job: Job,
@@ -66,7 +79,7 @@ fn recalled_with<M: Told + Drop>(
 
 // An End with its hand, which is the medium of its mount.
 fn end_with<M: Told + Drop>(
-    state: &mut KeptState<M>,
+    state: &mut ArchiveState<M>,
     at: u64,
     mount: u32,
     fault: Option<Fault>,
@@ -96,7 +109,7 @@ impl<M: Told + Drop> Archive<M> {
     /// One that is refused changes nothing, and its hand comes back. After NoMemory nothing has changed, and the ask and the hand come back.
     ///
     /// A session asks only what a session may: a Next of a drive of the site, and all else of a mount of the history. Its cost is that of
-    /// the call of `archive_answers` for the ask. None goes through the history or through all files; a TapeState and a Repack go through
+    /// the call of `archive` for the ask. None goes through the history or through all files; a TapeState and a Repack go through
     /// the live copies on their tape.
     pub fn ask(
         &mut self,

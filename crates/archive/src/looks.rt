@@ -6,16 +6,18 @@ ghost use Rattle.cta_model.specs.Legal.{greatest_moment};
 ghost use Rattle.cta_model.specs.Looks.{look_answer_of};
 
 use crate::archive::Archive;
-use archive_answers::{
-    archive_info, failed_list, fetch, queues, repack_info, stage_info, tape_info,
-};
+use crate::copy_looks::failed_list;
+use crate::file_looks::{archive_info, fetch};
+use crate::repacks::repack_info;
+use crate::stage_looks::stage_info;
+use crate::tape_looks::{queues, tape_info};
 use cta_model::{Answer, Hand, Look, NoMemory, Told};
 
 impl<M: Told + Drop> Archive<M> {
     /// Answers a look at this moment, in seconds since 1970, and changes nothing.
     ///
     /// The answer is the sequential archive's on the history. With a Fetch that finds its file the content comes out, and with any other
-    /// look nothing. NoMemory gives nothing. Its cost is that of the call of `archive_answers` for the look.
+    /// look nothing. NoMemory gives nothing. Its cost is that of the call of `archive` for the look.
     pub fn look(&self, at: u64, look: &Look) -> Result<(Answer, Hand<M>), NoMemory>
         requires at { at ≤ greatest_moment }
         ensures answer { IfOk result (λ r. bare_answer r.0 ≡ look_answer_of self.now.site self.now.history at (bare_look look.now)) }

@@ -3,7 +3,8 @@ ghost use Rattle.std.specs.Prelude.{◌≡◌, ◌≤◌, reverse};
 ghost use Rattle.cta_model.specs.Hands.{HandIn};
 ghost use Rattle.cta_model.specs.Legal.{IsFit, greatest_moment};
 ghost use Rattle.archive_turns.specs.Topics.{topic_of};
-ghost use Rattle.archive_turns.specs.Plays.{call_adds, call_asks, Returns};
+ghost use Rattle.archive_turns.specs.Fits.{CanPlay};
+ghost use Rattle.archive_turns.specs.Plays.{call_adds, call_asks, kept_with, Returns};
 ghost use Rattle.archive.specs.InOrder.{IsLegalInOrder, CanPlayInOrder, IsFitInOrder, PlaysInOrder};
 
 use crate::archive::Archive;
@@ -20,7 +21,7 @@ impl<M: Told + Drop> Archive<M> {
         requires fit { IsFit self.old.site self.old.history ask }
         requires hand { HandIn M.told self.old.history ask hand }
         ensures returns { Returns M.told self.old.site self.old.history (ArchiveCall.Ask at ask hand) result self.new.history }
-        ensures same { self.new.site ≡ self.old.site }
+        ensures kept { self.new ≡ kept_with M.told self.old (ArchiveCall.Ask at ask hand) result }
     {
         ArchiveBack::Ask(self.ask(at, ask, hand))
     }
@@ -28,9 +29,23 @@ impl<M: Told + Drop> Archive<M> {
     // A look of a turn, and what comes back.
     fn looked(&self, at: u64, look: &Look) -> ArchiveBack<M>
         requires { at ≤ greatest_moment }
-        ensures { Returns M.told self.now.site self.now.history (ArchiveCall.Look at look.now) result self.now.history }
+        ensures returns { Returns M.told self.now.site self.now.history (ArchiveCall.Look at look.now) result self.now.history }
+        ensures kept { self.now ≡ kept_with M.told self.now (ArchiveCall.Look at look.now) result }
     {
         ArchiveBack::Look(self.look(at, look))
+    }
+
+    /// Makes a call: an ask with its hand, or a look. What comes back, and what is kept then, is what `ask` or `look` says of it, at its
+    /// cost. After NoMemory nothing has changed.
+    pub fn call(&mut self, call: ArchiveCall<M>) -> ArchiveBack<M>
+        requires { CanPlay M.told self.old.site self.old.history call }
+        ensures returns { Returns M.told self.old.site self.old.history call result self.new.history }
+        ensures kept { self.new ≡ kept_with M.told self.old call result }
+    {
+        match call {
+            ArchiveCall::Ask { at, ask, hand } => self.asked(at, ask, hand),
+            ArchiveCall::Look { at, look } => self.looked(at, &look),
+        }
     }
 }
 
@@ -64,10 +79,7 @@ impl<M: Told + Drop> Keeps for Archive<M> {
     ghost fits = { IsFitInOrder M.told };
 
     fn play(&mut self, call: ArchiveCall<M>) -> ArchiveBack<M> {
-        match call {
-            ArchiveCall::Ask { at, ask, hand } => self.asked(at, ask, hand),
-            ArchiveCall::Look { at, look } => self.looked(at, &look),
-        }
+        self.call(call)
     }
 
     fn keeps_history(&self) {

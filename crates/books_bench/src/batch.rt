@@ -1,5 +1,5 @@
 // The files that a stage request is made of.
-ghost use Rattle.stage_book.specs.Requested.{AreApart};
+ghost use Rattle.stage_book.specs.Requested.{AreApart, ArePathsApart};
 
 use crate::paths::{count_of, path_of};
 use cta_model::StageFile;
@@ -7,7 +7,7 @@ use cta_site::{NoMemory, Rows};
 use std::alloc::Global;
 use std::marker::Model;
 
-// The number of a request, and its files, each with a number of its own below `next`.
+// The number of a request, and its files, each with a number and a path of its own, and the number below `next`.
 #[derive(Drop)]
 pub struct Batch {
     id: u32,
@@ -16,15 +16,15 @@ pub struct Batch {
 }
 
 impl Model for Batch {
-    ghost use Rattle.std.specs.Prelude.{ℕ, ◌≡◌, ◌≤◌, List, false};
+    ghost use Rattle.std.specs.Prelude.{List};
     ghost use Rattle.cta_model.specs.declared.states.StageFile.{StageFile};
-    ghost use Rattle.stage_book.specs.Requested.{AreApart, has_file};
+    ghost use Rattle.books_bench.specs.Batches.{IsBatch};
 
     ghost Value = { List StageFile };
 
     ghost view = { λ b. b.files.items };
 
-    ghost invariant = { λ b. AreApart b.files.items × ((f : ℕ) → b.next ≤ f → has_file f b.files.items ≡ false) };
+    ghost invariant = { λ b. IsBatch b.next b.files.items };
 }
 
 impl Batch {
@@ -63,7 +63,8 @@ impl Batch {
 
     // The files.
     pub fn files(self) -> Rows<StageFile>
-        ensures { AreApart result.items }
+        ensures apart { AreApart result.items }
+        ensures paths { ArePathsApart result.items }
     {
         Rows::of(self.files)
     }

@@ -1,9 +1,14 @@
 // Paths of files, and counts.
+ghost use Rattle.std.specs.Prelude.{◌≡◌, IfOk};
+ghost use Rattle.books_bench.specs.Batches.{path_named};
+
 use cta_site::{NoMemory, Text};
 use std::alloc::Global;
 
 // The path of a file.
-pub fn path_of(alloc: Global, file: u32) -> Result<Text, NoMemory> {
+pub fn path_of(alloc: Global, file: u32) -> Result<Text, NoMemory>
+    ensures { IfOk result (λ path. path ≡ path_named file) }
+{
     let path = format!(in alloc; "/data/atlas/file{file}")?;
     Ok(Text::of(path))
 }

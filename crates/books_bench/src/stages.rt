@@ -3,7 +3,7 @@ use crate::batch::{Batch, batches};
 use crate::paths::{count_of, paths_of};
 use crate::report::{Lines, Report, file_at, lacks_memory, run_over};
 use cta_site::{NoMemory, Text};
-use part_values::FileEnd;
+use part_model::FileEnd;
 use stage_book::StageBook;
 use std::alloc::Global;
 use std::hash::RandomState;

@@ -8,7 +8,7 @@ use Rattle.httparse.specs.Grammar.{RequestHead, print_request, LineEnd, crlf, lf
 use Rattle.wire_http.specs.Rules.{longest_body}
 use Rattle.wire_http.specs.Head.{framing, most_body, expects, IsOpenHead, IsBadHead, ReadsHead, BreaksRule, IsHeadOf}
 use Rattle.conn.specs.Message.{Message, message_text, messages_text, body_text, body_bytes}
-use Rattle.conn.specs.Cut.{Part, InPlain, AtLine, part_text, part_bytes, IsOpenPart, Event, Continues, Requests, Refuses, message_request, told, message_events, messages_events, OpenHead, OpenBody, NoHead, Breaks, NoBody, Closing, IsKept}
+use Rattle.conn.specs.Cut.{BodyPart, InPlain, AtLine, part_text, part_bytes, IsOpenPart, Event, Continues, Requests, Refuses, message_request, told, message_events, messages_events, OpenHead, OpenBody, NoHead, Breaks, NoBody, Closing, IsKept}
 use Rattle.conn.specs.Reading.{start_of, IsAt, Reached, Ends, Fails}
 use Rattle.wire_http.specs.declared.request.Request.{Request}
 use Rattle.conn.specs.Stands.{Between, Within, Ended, Unfinished, left_at, collected_request, IsFinished, BodySteps, BodyStepWithin}
@@ -20,7 +20,7 @@ use Rattle.wire_http.specs.declared.head.Head.{Head}
 use Rattle.wire_http.specs.declared.refusal.WireRefusal.{WireRefusal}
 use Rattle.wire_http.specs.declared.refusal.WireRefusal.TheVariants.{BadHead}
 use Rattle.conn.specs.declared.state.Collected.{Collected}
-use Rattle.conn.specs.declared.place.Place.{Place}
+use Rattle.conn.specs.declared.body_state.BodyState.{BodyState}
 use Rattle.conn.specs.declared.state.BodyStep.{BodyStep}
 use Rattle.conn.specs.declared.state.BodyStep.TheVariants as step
 use Rattle.conn.proofs.Bodies.{push, each_push}
@@ -54,8 +54,8 @@ head_breaks limit rest fed given r s b = record {
 }
 
 -- the part with which a body begins
-pub record Starts (limit : ℕ) (h : RequestHead) (q : Place) : Type 0 where
-  pub part : Part
+pub record Starts (limit : ℕ) (h : RequestHead) (q : BodyState) : Type 0 where
+  pub part : BodyPart
   pub place : IsAt limit h part q
   pub text : part_text part ≡ []
   pub bytes : part_bytes part ≡ []

@@ -7,14 +7,14 @@ use Rattle.httparse.specs.Ascii.{crlf_bytes}
 use Rattle.httparse.specs.Grammar.{RequestHead, chunk_size, print_chunk_line}
 use Rattle.wire_http.specs.Head.{framing}
 use Rattle.conn.specs.Message.{Plain, Chunk, chunk_text, chunks_text, content, IsChunk}
-use Rattle.conn.specs.Cut.{Part, InPlain, AtLine, InData, AtTrailer, IsOpenPart}
+use Rattle.conn.specs.Cut.{BodyPart, InPlain, AtLine, InData, AtTrailer, IsOpenPart}
 use Rattle.conn.specs.Reading.{IsAt, Reached, Ends}
 use Rattle.wire_http.specs.declared.head.BodyLen.TheVariants.{Sized}
-use Rattle.conn.specs.declared.place.Phase.TheVariants as phase
-use Rattle.conn.specs.declared.place.Place.{Place}
+use Rattle.conn.specs.declared.body_state.Phase.TheVariants as phase
+use Rattle.conn.specs.declared.body_state.BodyState.{BodyState}
 
 -- bytes of a body of stated length
-pub sized_more : (limit : ℕ) (h : RequestHead) (p : Part) (rest : List ℕ) (left n : ℕ) (q q' : Place)
+pub sized_more : (limit : ℕ) (h : RequestHead) (p : BodyPart) (rest : List ℕ) (left n : ℕ) (q q' : BodyState)
     → q.phase ≡ phase.Sized left → IsAt limit h p q → n ≤ left → n ≤ length rest → q'.phase ≡ phase.Sized (left - n)
     → Reached limit h p rest n (take n rest) q'
 sized_more limit h (InPlain bytes) rest left n q q' e inb few there e' =
@@ -32,7 +32,7 @@ sized_more limit h (AtLine chunks) rest left n q q' e inb few there e' = absurd 
 sized_more limit h (InData chunks line bytes) rest left n q q' e inb few there e' = absurd (rw e at inb.at)
 sized_more limit h (AtTrailer chunks last) rest left n q q' e inb few there e' = absurd (rw e at inb.at)
 
-pub sized_need : (limit : ℕ) (h : RequestHead) (p : Part) (rest : List ℕ) (left : ℕ) (q : Place)
+pub sized_need : (limit : ℕ) (h : RequestHead) (p : BodyPart) (rest : List ℕ) (left : ℕ) (q : BodyState)
     → q.phase ≡ phase.Sized left → IsAt limit h p q → left ≢ 0 → rest ≡ [] → IsOpenPart h p rest
 sized_need limit h (InPlain bytes) rest left q e inb some none =
     let at : framing h ≡ Sized (length bytes + left) = rw e at inb.at in
@@ -41,7 +41,7 @@ sized_need limit h (AtLine chunks) rest left q e inb some none = absurd (rw e at
 sized_need limit h (InData chunks line bytes) rest left q e inb some none = absurd (rw e at inb.at)
 sized_need limit h (AtTrailer chunks last) rest left q e inb some none = absurd (rw e at inb.at)
 
-pub sized_whole : (limit : ℕ) (h : RequestHead) (p : Part) (rest : List ℕ) (left : ℕ) (q : Place)
+pub sized_whole : (limit : ℕ) (h : RequestHead) (p : BodyPart) (rest : List ℕ) (left : ℕ) (q : BodyState)
     → q.phase ≡ phase.Sized left → IsAt limit h p q → left ≡ 0 → Ends limit h p rest 0
 sized_whole limit h (InPlain bytes) rest left q e inb none =
     let at : framing h ≡ Sized (length bytes + left) = rw e at inb.at in
@@ -60,7 +60,7 @@ each_push P [] x each here = (here, tt)
 each_push P (y ∷ xs) x each here = (each.0, each_push P xs x each.1 here)
 
 -- bytes of a chunk
-pub data_more : (limit : ℕ) (h : RequestHead) (p : Part) (rest : List ℕ) (left n : ℕ) (q q' : Place)
+pub data_more : (limit : ℕ) (h : RequestHead) (p : BodyPart) (rest : List ℕ) (left n : ℕ) (q q' : BodyState)
     → q.phase ≡ phase.Data left → IsAt limit h p q → n ≤ left → n ≤ length rest → q'.phase ≡ phase.Data (left - n) → q'.room ≡ q.room
     → Reached limit h p rest n (take n rest) q'
 data_more limit h (InPlain bytes) rest left n q q' e inb few there e' room = absurd (rw e at inb.at)
@@ -81,7 +81,7 @@ data_more limit h (InData chunks line bytes) rest left n q q' e inb few there e'
     }
 
 -- the CR LF behind a chunk
-pub data_end : (limit : ℕ) (h : RequestHead) (p : Part) (rest : List ℕ) (q q' : Place)
+pub data_end : (limit : ℕ) (h : RequestHead) (p : BodyPart) (rest : List ℕ) (q q' : BodyState)
     → q.phase ≡ phase.Data 0 → IsAt limit h p q → rest ≡ 13 ∷ 10 ∷ drop 2 rest → q'.phase ≡ phase.Line → q'.room ≡ q.room
     → Reached limit h p rest 2 [] q'
 data_end limit h (InPlain bytes) rest q q' e inb ends e' room = absurd (rw e at inb.at)

@@ -11,7 +11,7 @@ use Rattle.httparse.proofs.GrammarLemmas.{request_unique}
 use Rattle.httparse.proofs.ChunkLemmas.{chunk_line_unique}
 use Rattle.wire_http.specs.Head.{refusal_of, closes, most_body}
 use Rattle.conn.specs.Message.{Chunk, chunks_text, content, IsChunk, IsLast, IsTrailer, Body, Plain, InChunks, body_text, Message, message_text, messages_text, IsBody}
-use Rattle.conn.specs.Cut.{Part, InPlain, AtLine, InData, AtTrailer, part_text, IsPart, IsMore, IsOpenPart, IsBadPart, IsBadLine, IsBadTrailer, Tail, tail_text, IsTail, OpenHead, OpenBody, NoHead, Breaks, NoBody, Closing, IsKept}
+use Rattle.conn.specs.Cut.{BodyPart, InPlain, AtLine, InData, AtTrailer, part_text, IsPart, IsMore, IsOpenPart, IsBadPart, IsBadLine, IsBadTrailer, Tail, tail_text, IsTail, OpenHead, OpenBody, NoHead, Breaks, NoBody, Closing, IsKept}
 use Rattle.conn.specs.Unique.{FewIsNotMany, FewTrailersAreNotMany, HasOneCut, CutsAreSteps, StepsMakeCuts, EndsStay}
 use Rattle.conn.proofs.Feeding.{tail_more}
 use Rattle.std.proofs.lemmas.Grind.{flat_map-append}
@@ -41,7 +41,7 @@ no_bad_trailer few fs a rest more is e (inr (inr (long, none))) =
     none fs a (take (16384 - length (print_section fs a)) more) (All-from_recursion _ fs is.each, ap (take 16384) e ∙ in_front 16384 (print_section fs a) more is.short)
 
 -- a part with a rest that stops there, open or refused
-abbrev pub Stops : ℕ → RequestHead → Part → List ℕ → Type 0
+abbrev pub Stops : ℕ → RequestHead → BodyPart → List ℕ → Type 0
 Stops limit h p rest = IsOpenPart h p rest ⊎ ((r : WireRefusal) × IsBadPart limit h p rest r)
 
 -- the rest of chunks at a line: no line can stand there
@@ -127,7 +127,7 @@ module _ (few : FewTrailersAreNotMany) (limit : ℕ) (h : RequestHead) where
       not_at_trailer cs ds l last fs a x rest ec.1 ed.1 il im tr (next_chunk c d cs ds (ending l fs a x) (print_chunk_line last ++ rest) ec.0 ed.0 e) stops
 
   -- no whole body stands where one stops
-  pub not_body : (b : Body) (p : Part) (x rest : List ℕ) → IsBody limit h b → IsPart limit h p → body_text b ++ x ≡ part_text p ++ rest → Stops limit h p rest → ⊥
+  pub not_body : (b : Body) (p : BodyPart) (x rest : List ℕ) → IsBody limit h b → IsPart limit h p → body_text b ++ x ≡ part_text p ++ rest → Stops limit h p rest → ⊥
   not_body (Plain bs) (InPlain bytes) x rest ib ip e (inl stop) =
       let same : Sized (length bs) ≡ Sized stop.1 = sym ib ∙ stop.2 in
       let n : length bs ≡ stop.1 = cc in

@@ -5,7 +5,7 @@ use Rattle.std.proofs.lemmas.List.{take-append-le}
 use Rattle.httparse.specs.Grammar.{RequestHead, print_request, print_chunk_line}
 use Rattle.wire_http.specs.Head.{IsBadHead}
 use Rattle.conn.specs.Message.{message_text, messages_text}
-use Rattle.conn.specs.Cut.{Part, InPlain, AtLine, InData, AtTrailer, part_text, Event, IsBadLine, IsBadEnd, IsBadTrailer, IsBadPart, Tail, tail_text, tail_events, messages_events, IsTail, OpenHead, OpenBody, NoHead, Breaks, NoBody, Closing, IsOpen}
+use Rattle.conn.specs.Cut.{BodyPart, InPlain, AtLine, InData, AtTrailer, part_text, Event, IsBadLine, IsBadEnd, IsBadTrailer, IsBadPart, Tail, tail_text, tail_events, messages_events, IsTail, OpenHead, OpenBody, NoHead, Breaks, NoBody, Closing, IsOpen}
 use Rattle.conn.specs.Held.{IsOver}
 use Rattle.conn.specs.Stands.{Ended, Gives, StandsAt}
 use Rattle.wire_http.specs.declared.refusal.WireRefusal.{WireRefusal}
@@ -41,7 +41,7 @@ bad_trailer_more rest more (inr (inr (long, none))) =
     let same : take 16384 (rest ++ more) ≡ take 16384 rest = take-append-le 16384 rest more (omega arith) in
     inr (inr (omega (arith, length-append rest more), rw same none))
 
-bad_part_more : (limit : ℕ) (h : RequestHead) (p : Part) (rest more : List ℕ) (r : WireRefusal) → IsBadPart limit h p rest r → IsBadPart limit h p (rest ++ more) r
+bad_part_more : (limit : ℕ) (h : RequestHead) (p : BodyPart) (rest more : List ℕ) (r : WireRefusal) → IsBadPart limit h p rest r → IsBadPart limit h p (rest ++ more) r
 bad_part_more limit h (InPlain bytes) rest more r bad = bad
 bad_part_more limit h (AtLine chunks) rest more r (inl (is, bad)) = inl (is, bad_line_more rest more bad)
 bad_part_more limit h (AtLine chunks) rest more r (inr (is, large)) = inr (

@@ -8,11 +8,11 @@ use Rattle.httparse.specs.Spans.{IsChunkLineAt, SectionExceeds, IsSectionWithin,
 use Rattle.httparse.specs.declared.spans.HeaderSpan.{HeaderSpan}
 use Rattle.wire_http.specs.Head.{most_body}
 use Rattle.conn.specs.Message.{InChunks, most_trailer, chunks_text, content}
-use Rattle.conn.specs.Cut.{Part, InPlain, AtLine, InData, AtTrailer, IsOpenPart, IsBadLine, IsBadTrailer}
+use Rattle.conn.specs.Cut.{BodyPart, InPlain, AtLine, InData, AtTrailer, IsOpenPart, IsBadLine, IsBadTrailer}
 use Rattle.conn.specs.Reading.{IsAt, Reached, Ends, Fails}
 use Rattle.wire_http.specs.declared.refusal.WireRefusal.TheVariants.{TooLarge, BadChunk}
-use Rattle.conn.specs.declared.place.Phase.TheVariants as phase
-use Rattle.conn.specs.declared.place.Place.{Place}
+use Rattle.conn.specs.declared.body_state.Phase.TheVariants as phase
+use Rattle.conn.specs.declared.body_state.BodyState.{BodyState}
 
 -- all bytes are the first ones and the others
 pub behind : (n : ℕ) (bs more : List ℕ) → bs ++ more ≡ take n bs ++ (drop n bs ++ more)
@@ -39,7 +39,7 @@ line_positive l is =
     omega arith
 
 -- the line that ends the chunks
-pub line_last : (limit : ℕ) (h : RequestHead) (p : Part) (rest : List ℕ) (used size : ℕ) (l : ChunkLine) (q q' : Place)
+pub line_last : (limit : ℕ) (h : RequestHead) (p : BodyPart) (rest : List ℕ) (used size : ℕ) (l : ChunkLine) (q q' : BodyState)
     → q.phase ≡ phase.Line → IsAt limit h p q → IsChunkLineAt (take 256 rest) used size l → size ≡ 0 → q'.phase ≡ phase.Trailer
     → Reached limit h p rest used [] q'
 line_last limit h (InPlain bytes) rest used size l q q' e inb at zero e' = absurd (rw e at inb.at)
@@ -60,7 +60,7 @@ line_last limit h (AtLine chunks) rest used size l q q' e inb at zero e' =
       text = ap (λ xs. chunks_text chunks ++ xs) text ∙ sym (append_assoc (chunks_text chunks) (print_chunk_line l) (drop used rest));
     }
 
-pub line_more : (limit : ℕ) (h : RequestHead) (p : Part) (rest : List ℕ) (used size : ℕ) (l : ChunkLine) (q q' : Place)
+pub line_more : (limit : ℕ) (h : RequestHead) (p : BodyPart) (rest : List ℕ) (used size : ℕ) (l : ChunkLine) (q q' : BodyState)
     → q.phase ≡ phase.Line → IsAt limit h p q → IsChunkLineAt (take 256 rest) used size l → 0 < size
     → size ≤ q.room → q'.room ≡ q.room - size → q'.phase ≡ phase.Data size → Reached limit h p rest used [] q'
 line_more limit h (InPlain bytes) rest used size l q q' e inb at some fits room e' = absurd (rw e at inb.at)
@@ -82,7 +82,7 @@ line_more limit h (AtLine chunks) rest used size l q q' e inb at some fits room 
       text = ap (λ xs. chunks_text chunks ++ xs) text ∙ simp (append-nil, append_assoc);
     }
 
-pub line_large : (limit : ℕ) (h : RequestHead) (p : Part) (rest : List ℕ) (used size : ℕ) (l : ChunkLine) (q : Place)
+pub line_large : (limit : ℕ) (h : RequestHead) (p : BodyPart) (rest : List ℕ) (used size : ℕ) (l : ChunkLine) (q : BodyState)
     → q.phase ≡ phase.Line → IsAt limit h p q → IsChunkLineAt (take 256 rest) used size l → q.room < size → Fails limit h p rest TooLarge
 line_large limit h (InPlain bytes) rest used size l q e inb at large = absurd (rw e at inb.at)
 line_large limit h (InData chunks line bytes) rest used size l q e inb at large = absurd (rw e at inb.at)
@@ -98,13 +98,13 @@ line_large limit h (AtLine chunks) rest used size l q e inb at large =
       bad = inr (refl, record { line = l; after = drop used rest; is_line = at.reads.0; short = omega (arith, at.len_is, in_rest.1); reads = text; passes = omega (arith, at.size_is, large, inb.room) });
     }
 
-pub line_bad : (limit : ℕ) (h : RequestHead) (p : Part) (rest : List ℕ) (q : Place) → q.phase ≡ phase.Line → IsAt limit h p q → IsBadLine rest → Fails limit h p rest BadChunk
+pub line_bad : (limit : ℕ) (h : RequestHead) (p : BodyPart) (rest : List ℕ) (q : BodyState) → q.phase ≡ phase.Line → IsAt limit h p q → IsBadLine rest → Fails limit h p rest BadChunk
 line_bad limit h (InPlain bytes) rest q e inb bad = absurd (rw e at inb.at)
 line_bad limit h (InData chunks line bytes) rest q e inb bad = absurd (rw e at inb.at)
 line_bad limit h (AtTrailer chunks last) rest q e inb bad = absurd (rw e at inb.at)
 line_bad limit h (AtLine chunks) rest q e inb bad = record { now = AtLine chunks; after = rest; part = inb.part; text = refl; bad = inl (refl, bad) }
 
-pub line_need : (limit : ℕ) (h : RequestHead) (p : Part) (rest : List ℕ) (q : Place)
+pub line_need : (limit : ℕ) (h : RequestHead) (p : BodyPart) (rest : List ℕ) (q : BodyState)
     → q.phase ≡ phase.Line → IsAt limit h p q → length rest ≤ 256 → HasNoChunkLine (take 256 rest) → MayBecomeChunkLine (take 256 rest) → IsOpenPart h p rest
 line_need limit h (InPlain bytes) rest q e inb short none may = absurd (rw e at inb.at)
 line_need limit h (InData chunks line bytes) rest q e inb short none may = absurd (rw e at inb.at)
@@ -120,13 +120,13 @@ pub exceeds_section : (room n : ℕ) (rest : List ℕ) → SectionExceeds room (
 exceeds_section room n rest e =
     (e.0, e.1 ++ drop n rest, sym (take-append-drop n rest) ∙ ap (λ xs. xs ++ drop n rest) e.2 ∙ append_assoc e.0 e.1 (drop n rest), e.3, e.4, e.5)
 
-pub trailer_bad : (limit : ℕ) (h : RequestHead) (p : Part) (rest : List ℕ) (q : Place) → q.phase ≡ phase.Trailer → IsAt limit h p q → IsBadTrailer rest → Fails limit h p rest BadChunk
+pub trailer_bad : (limit : ℕ) (h : RequestHead) (p : BodyPart) (rest : List ℕ) (q : BodyState) → q.phase ≡ phase.Trailer → IsAt limit h p q → IsBadTrailer rest → Fails limit h p rest BadChunk
 trailer_bad limit h (InPlain bytes) rest q e inb bad = absurd (rw e at inb.at)
 trailer_bad limit h (AtLine chunks) rest q e inb bad = absurd (rw e at inb.at)
 trailer_bad limit h (InData chunks line bytes) rest q e inb bad = absurd (rw e at inb.at)
 trailer_bad limit h (AtTrailer chunks last) rest q e inb bad = record { now = AtTrailer chunks last; after = rest; part = inb.part; text = refl; bad = (refl, bad) }
 
-pub trailer_need : (limit : ℕ) (h : RequestHead) (p : Part) (rest : List ℕ) (n : ℕ) (q : Place) → n ≡ most_trailer
+pub trailer_need : (limit : ℕ) (h : RequestHead) (p : BodyPart) (rest : List ℕ) (n : ℕ) (q : BodyState) → n ≡ most_trailer
     → q.phase ≡ phase.Trailer → IsAt limit h p q → length rest ≤ n → HasNoSection (take n rest) → MayBecomeSection (take n rest) → IsOpenPart h p rest
 trailer_need limit h (InPlain bytes) rest n q m e inb short none may = absurd (rw e at inb.at)
 trailer_need limit h (AtLine chunks) rest n q m e inb short none may = absurd (rw e at inb.at)
@@ -135,7 +135,7 @@ trailer_need limit h (AtTrailer chunks last) rest n q m e inb short none may =
     let same : take n rest ≡ rest = take_all n rest short in
     (omega arith, rw same at none, rw same at may)
 
-pub trailer_whole : (limit : ℕ) (h : RequestHead) (p : Part) (rest : List ℕ) (n used count : ℕ) (hs : List HeaderSpan) (fields : List Field) (end : LineEnd) (q : Place) → n ≡ most_trailer
+pub trailer_whole : (limit : ℕ) (h : RequestHead) (p : BodyPart) (rest : List ℕ) (n used count : ℕ) (hs : List HeaderSpan) (fields : List Field) (end : LineEnd) (q : BodyState) → n ≡ most_trailer
     → q.phase ≡ phase.Trailer → IsAt limit h p q → length hs ≡ 64 → IsSectionWithin (take n rest) hs used count → IsSectionAt (take n rest) 0 hs used count fields end
     → Ends limit h p rest used
 trailer_whole limit h (InPlain bytes) rest n used count hs fields end q m e inb room within at = absurd (rw e at inb.at)

@@ -9,7 +9,7 @@ use Rattle.wire_http.specs.Head.{framing, most_body}
 use Rattle.wire_http.specs.declared.head.BodyLen.TheVariants.{Sized, Chunked}
 use Rattle.wire_http.specs.declared.refusal.WireRefusal.{WireRefusal}
 use Rattle.conn.specs.Message.{Chunk, chunks_text, content, IsChunk, IsLast}
-use Rattle.conn.specs.Cut.{Part, InPlain, AtLine, InData, AtTrailer, part_text, IsPart, IsMore, IsOpenPart, IsBadPart}
+use Rattle.conn.specs.Cut.{BodyPart, InPlain, AtLine, InData, AtTrailer, part_text, IsPart, IsMore, IsOpenPart, IsBadPart}
 use Rattle.conn.specs.Unique.{MayWaitPart}
 use Rattle.conn.proofs.Bodies.{push}
 use Rattle.conn.proofs.Cuts.{Stops, no_line, no_bad_line}
@@ -26,7 +26,7 @@ here_text AtL = []
 here_text (InD line bytes) = print_chunk_line line ++ bytes
 here_text (AtT last) = print_chunk_line last
 
-abbrev as_part : List Chunk → Here → Part
+abbrev as_part : List Chunk → Here → BodyPart
 as_part cs AtL = AtLine cs
 as_part cs (InD line bytes) = InData cs line bytes
 as_part cs (AtT last) = AtTrailer cs last
@@ -152,7 +152,7 @@ module _ (limit : ℕ) (h : RequestHead) where
       record { chunks = ap₂ (λ z zs. z ∷ zs) here others.chunks; here = others.here; rest = others.rest }
 
   -- a part of a body in chunks
-  record Placed (p : Part) (x : List ℕ) : Type 0 where
+  record Placed (p : BodyPart) (x : List ℕ) : Type 0 where
     pub chunks : List Chunk
     pub here : Here
     pub is : as_part chunks here ≡ p
@@ -162,13 +162,13 @@ module _ (limit : ℕ) (h : RequestHead) where
     pub is_here : IsHere here
     pub text : part_text p ++ x ≡ chunks_text chunks ++ (here_text here ++ x)
 
-  record PlainPart (p : Part) : Type 0 where
+  record PlainPart (p : BodyPart) : Type 0 where
     pub bytes : List ℕ
     pub is : p ≡ InPlain bytes
     pub len : ℕ
     pub framed : framing h ≡ Sized len
 
-  placed : (p : Part) (x : List ℕ) → IsPart limit h p → PlainPart p ⊎ Placed p x
+  placed : (p : BodyPart) (x : List ℕ) → IsPart limit h p → PlainPart p ⊎ Placed p x
   placed (InPlain bytes) x ip = inl (record { bytes = bytes; is = refl; len = ip.0; framed = ip.1 })
   placed (AtLine cs) x ip = inr (record { chunks = cs; here = AtL; is = refl; framed = ip.0; each = ip.1; sum = ip.2; is_here = tt; text = refl })
   placed (InData cs line bytes) x ip =
@@ -181,7 +181,7 @@ module _ (limit : ℕ) (h : RequestHead) where
   plain_end bytes x (inr (r, bad)) = absurd bad
 
   -- one text stops in one place
-  pub same_part : (p q : Part) (x y : List ℕ) → IsPart limit h p → IsPart limit h q → Stops limit h p x → Stops limit h q y
+  pub same_part : (p q : BodyPart) (x y : List ℕ) → IsPart limit h p → IsPart limit h q → Stops limit h p x → Stops limit h q y
       → part_text p ++ x ≡ part_text q ++ y → (p ≡ q) × (x ≡ y)
   same_part p q x y ip iq sx sy e = by_kind (placed p x ip) (placed q y iq)
     where
@@ -199,7 +199,7 @@ module _ (limit : ℕ) (h : RequestHead) where
           (sym a.is ∙ ap₂ as_part same.chunks same.here ∙ b.is, same.rest)
 
   -- a part is open and refused only where a 65th field may come
-  pub open_or_bad : (p : Part) (x : List ℕ) (r : WireRefusal) → IsOpenPart h p x → IsBadPart limit h p x r → MayWaitPart p x
+  pub open_or_bad : (p : BodyPart) (x : List ℕ) (r : WireRefusal) → IsOpenPart h p x → IsBadPart limit h p x r → MayWaitPart p x
   open_or_bad (InPlain bytes) x r open_part bad = bad
   open_or_bad (AtLine cs) x r open_part (inl (is, inl never)) = never open_part.2.0 open_part.2.1 [] open_part.2.2
   open_or_bad (AtLine cs) x r open_part (inl (is, inr (long, none))) = omega (arith, long, open_part.0)
@@ -211,7 +211,7 @@ module _ (limit : ℕ) (h : RequestHead) where
   open_or_bad (AtTrailer cs last) x r open_part (is, inr (inr (long, none))) = absurd (omega (arith, long, open_part.0))
 
   -- a part is refused for one reason
-  pub one_refusal : (p : Part) (x : List ℕ) (r r' : WireRefusal) → IsBadPart limit h p x r → IsBadPart limit h p x r' → r ≡ r'
+  pub one_refusal : (p : BodyPart) (x : List ℕ) (r r' : WireRefusal) → IsBadPart limit h p x r → IsBadPart limit h p x r' → r ≡ r'
   one_refusal (InPlain bytes) x r r' bad bad' = absurd bad
   one_refusal (AtLine cs) x r r' (inl bad) (inl bad') = bad.0 ∙ sym bad'.0
   one_refusal (AtLine cs) x r r' (inl bad) (inr large) = absurd (no_bad_line large.1.line x large.1.after large.1.is_line large.1.short large.1.reads bad.1)

@@ -8,7 +8,7 @@ use Rattle.httparse.proofs.GrammarLemmas.{request_unique}
 use Rattle.wire_http.specs.Head.{refusal_of, IsOpenHead, IsBadHead}
 use Rattle.wire_http.specs.declared.refusal.WireRefusal.{WireRefusal}
 use Rattle.conn.specs.Message.{Message, body_text, IsHead}
-use Rattle.conn.specs.Cut.{Part, part_text, Refuses, told, message_events, messages_events, IsBadPart, IsPart, Tail, tail_text, tail_events, IsTail, OpenHead, OpenBody, NoHead, Breaks, NoBody, Closing}
+use Rattle.conn.specs.Cut.{BodyPart, part_text, Refuses, told, message_events, messages_events, IsBadPart, IsPart, Tail, tail_text, tail_events, IsTail, OpenHead, OpenBody, NoHead, Breaks, NoBody, Closing}
 use Rattle.conn.specs.Unique.{MayWait, HasOneOutcome}
 use Rattle.conn.proofs.Cuts.{in_front, not_body, one_cut}
 use Rattle.conn.proofs.Few.{few_trailers}
@@ -58,7 +58,7 @@ open_or_no_head part is (inr (inr (long, none))) = absurd (omega (arith, long, i
 
 module _ (limit : ℕ) where
   -- a body that waits, against each tail
-  wait_agrees : (h : RequestHead) (p : Part) (x : List ℕ) (t : Tail) → IsTail limit (OpenBody h p x) → IsTail limit t → tail_text (OpenBody h p x) ≡ tail_text t → Agree (OpenBody h p x) t
+  wait_agrees : (h : RequestHead) (p : BodyPart) (x : List ℕ) (t : Tail) → IsTail limit (OpenBody h p x) → IsTail limit t → tail_text (OpenBody h p x) ≡ tail_text t → Agree (OpenBody h p x) t
   wait_agrees h p x (OpenHead part) is it e = absurd (has_head limit h (part_text p ++ x) (OpenHead part) is.0 it e)
   wait_agrees h p x (OpenBody head part rest) is it e = inl (ap told (has_head limit h (part_text p ++ x) (OpenBody head part rest) is.0 it e).0)
   wait_agrees h p x (NoHead rest) is it e = absurd (has_head limit h (part_text p ++ x) (NoHead rest) is.0 it e)
@@ -74,7 +74,7 @@ module _ (limit : ℕ) where
       absurd (not_body few_trailers limit h message.body p rest x (rw same.0 it.0.1) is.1 (sym same.1) (inl is.2))
 
   -- a body that is refused, against a further refused one and a whole one
-  refused_agrees : (h : RequestHead) (p : Part) (x : List ℕ) (r : WireRefusal) (t : Tail) → IsTail limit (NoBody h p x r) → IsTail limit t → tail_text (NoBody h p x r) ≡ tail_text t → Agree (NoBody h p x r) t
+  refused_agrees : (h : RequestHead) (p : BodyPart) (x : List ℕ) (r : WireRefusal) (t : Tail) → IsTail limit (NoBody h p x r) → IsTail limit t → tail_text (NoBody h p x r) ≡ tail_text t → Agree (NoBody h p x r) t
   refused_agrees h p x r (OpenHead part) is it e = absurd (has_head limit h (part_text p ++ x) (OpenHead part) is.0 it e)
   refused_agrees h p x r (OpenBody head part rest) is it e = turned (wait_agrees head part rest (NoBody h p x r) it is (sym e))
     where

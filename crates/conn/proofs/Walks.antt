@@ -9,20 +9,20 @@ use Rattle.wire_http.specs.declared.head.Frame.{Frame}
 use Rattle.wire_http.specs.declared.refusal.WireRefusal.{WireRefusal}
 use Rattle.wire_http.specs.declared.refusal.WireRefusal.TheVariants.{BadHead}
 use Rattle.conn.specs.Message.{Message, message_text, messages_text, body_text, IsHead}
-use Rattle.conn.specs.Cut.{Part, part_text, IsOpenPart, OpenHead, OpenBody, NoHead, Breaks, NoBody, Closing, IsKept, Cut, IsLinkCut}
+use Rattle.conn.specs.Cut.{BodyPart, part_text, IsOpenPart, OpenHead, OpenBody, NoHead, Breaks, NoBody, Closing, IsKept, Cut, IsLinkCut}
 use Rattle.conn.specs.Reading.{start_of, IsAt, Reached, Ends, Fails}
 use Rattle.conn.specs.Walking.{WholeBody, OpenEnd, EndsThere, BeginsMessage}
-use Rattle.conn.specs.declared.place.Place.{Place}
+use Rattle.conn.specs.declared.body_state.BodyState.{BodyState}
 use Rattle.conn.proofs.Bodies.{push, each_push}
 use Rattle.conn.proofs.Advancing.{Starts, starts, request_positive}
 
 -- the walk through a body came so far
-pub record Walked (limit : ℕ) (h : RequestHead) (p : Part) (rest : List ℕ) (at : ℕ) (q : Place) : Type 0 where
-  pub now : Part
+pub record Walked (limit : ℕ) (h : RequestHead) (p : BodyPart) (rest : List ℕ) (at : ℕ) (q : BodyState) : Type 0 where
+  pub now : BodyPart
   pub place : IsAt limit h now q
   pub text : part_text p ++ rest ≡ part_text now ++ drop at rest
 
-pub walk_on : (limit : ℕ) (h : RequestHead) (p : Part) (rest : List ℕ) (at used : ℕ) (taken more : List ℕ) (q q' : Place) (w : Walked limit h p rest at q)
+pub walk_on : (limit : ℕ) (h : RequestHead) (p : BodyPart) (rest : List ℕ) (at used : ℕ) (taken more : List ℕ) (q q' : BodyState) (w : Walked limit h p rest at q)
     → more ≡ drop at rest → Reached limit h w.now more used taken q' → drop used more ≡ drop (at + used) rest → Walked limit h p rest (at + used) q'
 walk_on limit h p rest at used taken more q q' w same r others = record {
   now = r.now;
@@ -37,11 +37,11 @@ others xs a b = ap (drop b) (take_rest xs a) ∙ drop-drop b a xs
 pub others_within : (xs : List ℕ) (a b : ℕ) → a ≤ length xs → b ≤ length (take (length xs - a) (drop a xs)) → a + b ≤ length xs
 others_within xs a b inside few = omega (arith, few, ap length (take_rest xs a), length-drop a xs, inside)
 
-pub walk_step : (limit : ℕ) (h : RequestHead) (p : Part) (rest : List ℕ) (at used : ℕ) (taken : List ℕ) (q q' : Place) (w : Walked limit h p rest at q)
+pub walk_step : (limit : ℕ) (h : RequestHead) (p : BodyPart) (rest : List ℕ) (at used : ℕ) (taken : List ℕ) (q q' : BodyState) (w : Walked limit h p rest at q)
     → Reached limit h w.now (take (length rest - at) (drop at rest)) used taken q' → Walked limit h p rest (at + used) q'
 walk_step limit h p rest at used taken q q' w r = walk_on limit h p rest at used taken (take (length rest - at) (drop at rest)) q q' w (take_rest rest at) r (others rest at used)
 
-pub walk_open : (limit : ℕ) (h : RequestHead) (p : Part) (rest : List ℕ) (at : ℕ) (q : Place) (w : Walked limit h p rest at q)
+pub walk_open : (limit : ℕ) (h : RequestHead) (p : BodyPart) (rest : List ℕ) (at : ℕ) (q : BodyState) (w : Walked limit h p rest at q)
     → IsOpenPart h w.now (take (length rest - at) (drop at rest)) → OpenEnd limit h p rest
 walk_open limit h p rest at q w is = record {
   now = w.now;
@@ -51,7 +51,7 @@ walk_open limit h p rest at q w is = record {
   open_part = is;
 }
 
-pub walk_whole : (limit : ℕ) (h : RequestHead) (p : Part) (rest : List ℕ) (at used : ℕ) (q : Place) (w : Walked limit h p rest at q)
+pub walk_whole : (limit : ℕ) (h : RequestHead) (p : BodyPart) (rest : List ℕ) (at used : ℕ) (q : BodyState) (w : Walked limit h p rest at q)
     → Ends limit h w.now (take (length rest - at) (drop at rest)) used → WholeBody limit h p rest (at + used)
 walk_whole limit h p rest at used q w e = record {
   body = e.body;
@@ -59,7 +59,7 @@ walk_whole limit h p rest at used q w e = record {
   text = w.text ∙ ap (λ xs. part_text w.now ++ xs) (sym (take_rest rest at)) ∙ e.text ∙ ap (λ xs. body_text e.body ++ xs) (others rest at used);
 }
 
-pub walk_fails : (limit : ℕ) (h : RequestHead) (p : Part) (rest : List ℕ) (at : ℕ) (r : WireRefusal) (q : Place) (w : Walked limit h p rest at q)
+pub walk_fails : (limit : ℕ) (h : RequestHead) (p : BodyPart) (rest : List ℕ) (at : ℕ) (r : WireRefusal) (q : BodyState) (w : Walked limit h p rest at q)
     → Fails limit h w.now (take (length rest - at) (drop at rest)) r → Fails limit h p rest r
 walk_fails limit h p rest at r q w f = record {
   now = f.now;
@@ -102,7 +102,7 @@ ends_refused limit rest r (inr b) =
     (Breaks b.tree b.rest r, ((record { reads = (b.begins.reads.0, refl); fields = b.begins.fields; within = b.begins.within }, b.breaks), b.begins.reads.1))
 
 -- the text of a part that a body begins with is empty
-begun : (limit : ℕ) (h : RequestHead) (q : Place) (st : Starts limit h q) (xs ys : List ℕ) → part_text st.part ++ xs ≡ ys → xs ≡ ys
+begun : (limit : ℕ) (h : RequestHead) (q : BodyState) (st : Starts limit h q) (xs ys : List ℕ) → part_text st.part ++ xs ≡ ys → xs ≡ ys
 begun limit h q st xs ys e = ap (λ zs. zs ++ xs) (sym st.text) ∙ e
 
 pub ends_open_body : (limit : ℕ) (rest more : List ℕ) (f : Frame) (fr : Framed limit rest f) → more ≡ drop f.len rest → OpenEnd limit fr.tree fr.begins.part more → EndsThere limit rest

@@ -38,21 +38,21 @@ abbrev pub messages_events : List Message → List Event
 messages_events ms = flat_map message_events ms
 
 -- a body of which a part has come: what was read of it, with nothing left over
-pub data Part : Type 0 where
-  InPlain : (bytes : List ℕ) → Part
-  AtLine : (chunks : List Chunk) → Part
-  InData : (chunks : List Chunk) (line : ChunkLine) (bytes : List ℕ) → Part
-  AtTrailer : (chunks : List Chunk) (last : ChunkLine) → Part
+pub data BodyPart : Type 0 where
+  InPlain : (bytes : List ℕ) → BodyPart
+  AtLine : (chunks : List Chunk) → BodyPart
+  InData : (chunks : List Chunk) (line : ChunkLine) (bytes : List ℕ) → BodyPart
+  AtTrailer : (chunks : List Chunk) (last : ChunkLine) → BodyPart
 
 -- the text of that part
-abbrev pub part_text : Part → List ℕ
+abbrev pub part_text : BodyPart → List ℕ
 part_text (InPlain bytes) = bytes
 part_text (AtLine chunks) = chunks_text chunks
 part_text (InData chunks line bytes) = chunks_text chunks ++ (print_chunk_line line ++ bytes)
 part_text (AtTrailer chunks last) = chunks_text chunks ++ print_chunk_line last
 
 -- the bytes of the body in that part
-abbrev pub part_bytes : Part → List ℕ
+abbrev pub part_bytes : BodyPart → List ℕ
 part_bytes (InPlain bytes) = bytes
 part_bytes (AtLine chunks) = content chunks
 part_bytes (InData chunks line bytes) = content chunks ++ bytes
@@ -69,14 +69,14 @@ pub record IsMore (l : ChunkLine) : Type 0 where
   pub some : 0 < chunk_size l
 
 -- that part belongs to a body behind that head
-abbrev pub IsPart : ℕ → RequestHead → Part → Type 0
+abbrev pub IsPart : ℕ → RequestHead → BodyPart → Type 0
 IsPart limit h (InPlain bytes) = (n : ℕ) × (framing h ≡ Sized n) × (length bytes ≤ n)
 IsPart limit h (AtLine chunks) = AreChunks limit h chunks 0
 IsPart limit h (InData chunks line bytes) = AreChunks limit h chunks (chunk_size line) × IsMore line × (length bytes ≤ chunk_size line)
 IsPart limit h (AtTrailer chunks last) = AreChunks limit h chunks 0 × IsLast last
 
 -- nothing more of the body is whole, and it may go on
-abbrev pub IsOpenPart : RequestHead → Part → List ℕ → Type 0
+abbrev pub IsOpenPart : RequestHead → BodyPart → List ℕ → Type 0
 IsOpenPart h (InPlain bytes) rest = (rest ≡ []) × (n : ℕ) × (framing h ≡ Sized n) × (length bytes < n)
 IsOpenPart h (AtLine chunks) rest = (length rest ≤ most_line) × HasNoChunkLine rest × MayBecomeChunkLine rest
 IsOpenPart h (InData chunks line bytes) rest =
@@ -108,7 +108,7 @@ IsBadTrailer rest =
     NeverHasSection rest ⊎ (SectionExceeds most_fields rest ⊎ ((most_trailer < length rest) × HasNoSection (take most_trailer rest)))
 
 -- what can't go on as the rest of the body, and why
-abbrev pub IsBadPart : ℕ → RequestHead → Part → List ℕ → WireRefusal → Type 0
+abbrev pub IsBadPart : ℕ → RequestHead → BodyPart → List ℕ → WireRefusal → Type 0
 IsBadPart limit h (InPlain bytes) rest r = ⊥
 IsBadPart limit h (AtLine chunks) rest r = ((r ≡ BadChunk) × IsBadLine rest) ⊎ ((r ≡ TooLarge) × PassesLimit (most_body limit h) chunks rest)
 IsBadPart limit h (InData chunks line bytes) rest r = (r ≡ BadChunk) × (length bytes ≡ chunk_size line) × IsBadEnd rest
@@ -119,11 +119,11 @@ pub data Tail : Type 0 where
   -- part of a head
   OpenHead : (part : List ℕ) → Tail
   -- a head and part of its body
-  OpenBody : (head : RequestHead) (part : Part) (rest : List ℕ) → Tail
+  OpenBody : (head : RequestHead) (part : BodyPart) (rest : List ℕ) → Tail
   -- no head, a head that breaks a rule, or no body; with all that follows
   NoHead : (rest : List ℕ) → Tail
   Breaks : (head : RequestHead) (rest : List ℕ) (refusal : WireRefusal) → Tail
-  NoBody : (head : RequestHead) (part : Part) (rest : List ℕ) (refusal : WireRefusal) → Tail
+  NoBody : (head : RequestHead) (part : BodyPart) (rest : List ℕ) (refusal : WireRefusal) → Tail
   -- a closing request, with all that follows
   Closing : (message : Message) (rest : List ℕ) → Tail
 

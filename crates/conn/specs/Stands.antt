@@ -3,7 +3,7 @@ use Rattle.std.specs.Prelude.{◌≡◌, ℕ, ◌+◌, ◌*◌, ◌<◌, ◌≤�
 use Rattle.std.specs.List.{AllByRecursion}
 use Rattle.httparse.specs.Grammar.{RequestHead, print_request}
 use Rattle.conn.specs.Message.{most_unfinished, Message, messages_text}
-use Rattle.conn.specs.Cut.{Part, part_text, Event, Continues, Requests, Refuses, told, messages_events, IsKept, Cut, IsLinkCut, IsOpen, cut_events}
+use Rattle.conn.specs.Cut.{BodyPart, part_text, Event, Continues, Requests, Refuses, told, messages_events, IsKept, Cut, IsLinkCut, IsOpen, cut_events}
 use Rattle.conn.specs.Reading.{IsInBody}
 use Rattle.conn.specs.Held.{HasSpace, HoldsWith, IsOver, held, memory, unread}
 use Rattle.conn.specs.declared.state.Collected.{Collected}
@@ -30,7 +30,7 @@ pub record Within (limit : ℕ) (b : Collected) (rest fed : List ℕ) (given : L
   pub whole : List Message
   pub each : AllByRecursion (IsKept limit) whole
   pub head : RequestHead
-  pub part : Part
+  pub part : BodyPart
   pub in_body : IsInBody limit head part b
   pub text : fed ≡ messages_text whole ++ (print_request head ++ (part_text part ++ rest))
   pub events : given ≡ messages_events whole ++ told head

@@ -4,7 +4,7 @@ use Rattle.httparse.specs.Grammar.{RequestHead, ReadsRequest, EndsInTarget, Neve
 use Rattle.httparse.specs.Spans.{RequestExceeds, SectionExceeds}
 use Rattle.wire_http.specs.Head.{most_fields}
 use Rattle.std.specs.List.{AllByRecursion}
-use Rattle.conn.specs.Cut.{Part, InPlain, AtLine, InData, AtTrailer, Cut, Tail, OpenHead, OpenBody, NoHead, Breaks, NoBody, Closing, IsLinkCut, IsKept, IsTail, IsOpen, tail_text, tail_events, cut_events}
+use Rattle.conn.specs.Cut.{BodyPart, InPlain, AtLine, InData, AtTrailer, Cut, Tail, OpenHead, OpenBody, NoHead, Breaks, NoBody, Closing, IsLinkCut, IsKept, IsTail, IsOpen, tail_text, tail_events, cut_events}
 use Rattle.conn.specs.Message.{Message, message_text, messages_text, IsMessage}
 
 -- what begins with two messages begins with the same one, and the same stands behind it
@@ -52,7 +52,7 @@ EndsStay =
     → (t : Tail) × ((tail_events c.tail ≡ tail_events t) × IsLinkCut limit (xs ++ ys) (record { whole = c.whole; tail = t }))
 
 -- a part of a body in which a 65th field of the trailer may come, and be refused now or later
-abbrev pub MayWaitPart : Part → List ℕ → Type 0
+abbrev pub MayWaitPart : BodyPart → List ℕ → Type 0
 MayWaitPart (InPlain bytes) rest = ⊥
 MayWaitPart (AtLine chunks) rest = ⊥
 MayWaitPart (InData chunks line bytes) rest = ⊥

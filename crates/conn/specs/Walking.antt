@@ -2,27 +2,27 @@
 use Rattle.std.specs.Prelude.{◌≡◌, ℕ, ◌≤◌, List, ◌++◌, length, drop}
 use Rattle.httparse.specs.Grammar.{RequestHead}
 use Rattle.conn.specs.Message.{Body, body_text, IsBody, Message, message_text}
-use Rattle.conn.specs.Cut.{Part, part_text, IsPart, IsOpenPart, Tail, tail_text, IsTail, IsKept}
+use Rattle.conn.specs.Cut.{BodyPart, part_text, IsPart, IsOpenPart, Tail, tail_text, IsTail, IsKept}
 use Rattle.conn.specs.Reading.{Fails}
 use Rattle.conn.specs.declared.walk.BodyEnd.{BodyEnd}
 use Rattle.conn.specs.declared.walk.BodyEnd.TheVariants as end
 
 -- the body is whole with so many bytes
-pub record WholeBody (limit : ℕ) (h : RequestHead) (p : Part) (rest : List ℕ) (used : ℕ) : Type 0 where
+pub record WholeBody (limit : ℕ) (h : RequestHead) (p : BodyPart) (rest : List ℕ) (used : ℕ) : Type 0 where
   pub body : Body
   pub is_body : IsBody limit h body
   pub text : part_text p ++ rest ≡ body_text body ++ drop used rest
 
 -- the body is unfinished
-pub record OpenEnd (limit : ℕ) (h : RequestHead) (p : Part) (rest : List ℕ) : Type 0 where
-  pub now : Part
+pub record OpenEnd (limit : ℕ) (h : RequestHead) (p : BodyPart) (rest : List ℕ) : Type 0 where
+  pub now : BodyPart
   pub after : List ℕ
   pub part : IsPart limit h now
   pub text : part_text p ++ rest ≡ part_text now ++ after
   pub open_part : IsOpenPart h now after
 
 -- what a body comes to
-abbrev pub EndsBody : ℕ → RequestHead → Part → List ℕ → BodyEnd → Type 0
+abbrev pub EndsBody : ℕ → RequestHead → BodyPart → List ℕ → BodyEnd → Type 0
 EndsBody limit h p rest (end.Whole used) = WholeBody limit h p rest used
 EndsBody limit h p rest end.Open = OpenEnd limit h p rest
 EndsBody limit h p rest (end.Refused refusal) = Fails limit h p rest refusal

@@ -7,8 +7,8 @@ ghost use Rattle.conn.specs.declared.state.Advance.TheVariants as Advance;
 ghost use Rattle.conn.specs.declared.next.Next.TheVariants as Next;
 ghost use Rattle.conn.specs.declared.state.State.TheVariants as State;
 
+use crate::body_state::{Step, go_on, start_of};
 use crate::next::Next;
-use crate::place::{Step, go_on, start_of};
 use crate::state::{Advance, BodyStep, Collected, State};
 use blob::BlobMaker;
 use cta_site::NoMemory;

@@ -3,6 +3,7 @@
 #![tactic(auto)]
 
 mod advance;
+mod body_state;
 mod buffer;
 mod completion;
 mod connection;
@@ -11,7 +12,6 @@ mod keeping;
 mod laws;
 mod next;
 mod pieces;
-mod place;
 mod state;
 mod walk;
 

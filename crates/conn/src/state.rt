@@ -2,8 +2,8 @@
 ghost use Rattle.std.specs.Prelude.{IsFalse, IsTrue};
 ghost use Rattle.conn.specs.Held.{IsOver};
 
+use crate::body_state::BodyState;
 use crate::next::Next;
-use crate::place::Place;
 use blob::BlobMaker;
 use wire_http::{Head, Request, WireRefusal};
 
@@ -12,7 +12,7 @@ use wire_http::{Head, Request, WireRefusal};
 pub(crate) struct Collected {
     pub(crate) head: Head,
     pub(crate) maker: BlobMaker,
-    pub(crate) place: Place,
+    pub(crate) place: BodyState,
 }
 
 #[derive(Drop)]

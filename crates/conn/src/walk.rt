@@ -1,11 +1,11 @@
 // Every byte list has a cut: it is found without memory.
 ghost use Rattle.std.specs.Prelude.{◌≡◌, ◌≤◌, ◌<◌, ℕ, length, MatchOption, IfSome};
 ghost use Rattle.httparse.specs.Grammar.{RequestHead};
-ghost use Rattle.conn.specs.Cut.{Part, Cut, IsLinkCut};
+ghost use Rattle.conn.specs.Cut.{BodyPart, Cut, IsLinkCut};
 ghost use Rattle.conn.specs.Reading.{IsAt};
 ghost use Rattle.conn.specs.Walking.{EndsBody, EndWithin, EndsThere, BeginsMessage};
 
-use crate::place::{Place, Step, go_on, start_of};
+use crate::body_state::{BodyState, Step, go_on, start_of};
 use wire_http::{Judged, WireRefusal, judge_head};
 
 // What a body comes to.
@@ -16,8 +16,8 @@ pub(crate) enum BodyEnd {
     Refused(WireRefusal),
 }
 
-pub(crate) fn body_end(rest: &[u8], start: Place) -> BodyEnd
-    ensures ends { (limit : ℕ) (h : RequestHead) (p : Part) → IsAt limit h p start → EndsBody limit h p rest.now result }
+pub(crate) fn body_end(rest: &[u8], start: BodyState) -> BodyEnd
+    ensures ends { (limit : ℕ) (h : RequestHead) (p : BodyPart) → IsAt limit h p start → EndsBody limit h p rest.now result }
     ensures within { EndWithin rest.now result }
 {
     let mut place = start;

@@ -52,22 +52,22 @@ rising_turn s (i ∷ items) turn = (let first : i.fseq ≡ s = turn.0 in (turn_a
 -- ---- the source of a queued recall
 
 -- a place is that of a copy of the file
-abbrev IsPlaceOf : History → ℕ → Place → Type 0
+abbrev pub IsPlaceOf : History → ℕ → Place → Type 0
 IsPlaceOf h f p = (c : ℕ) × (place_of h f c ≡ Some p)
 
-sources_are_places : (site : Site) (h : History) (f : ℕ) → AllOf (IsPlaceOf h f) (sources_of site h f)
+pub sources_are_places : (site : Site) (h : History) (f : ℕ) → AllOf (IsPlaceOf h f) (sources_of site h f)
 sources_are_places site h f =
     let all : AllOf (IsPlaceOf h f) (all_places site h f) = all_filter_map (IsPlaceOf h f) (place_of h f) (copy_numbers site h f) (range_all (λ c. (p : Place) → place_of h f c ≡ Some p → IsPlaceOf h f p) 1 (copies_of_file site h f) (λ c low high p is. (c, is))) in
     let whole : AllOf (IsPlaceOf h f) (places_of site h f) = all_filter (IsPlaceOf h f) (λ (p : Place). not (is_broken (tape_state site h p.tape))) (all_places site h f) all in
     else_all (IsPlaceOf h f) (filter (λ (p : Place). may_be_read (tape_state site h p.tape)) (places_of site h f)) (places_of site h f) (all_filter (IsPlaceOf h f) (λ (p : Place). may_be_read (tape_state site h p.tape)) (places_of site h f) whole) whole
 
 -- a source on the tape is found where the recall's tape is that tape
-source_there : (v i : ℕ) (ps : List Place) → is_number v (option_map (λ (p : Place). p.tape) (slice_get ps i)) ≡ true → list_any (λ (p : Place). p.tape == v) ps ≡ true
+pub source_there : (v i : ℕ) (ps : List Place) → is_number v (option_map (λ (p : Place). p.tape) (slice_get ps i)) ≡ true → list_any (λ (p : Place). p.tape == v) ps ≡ true
 source_there v i [] e = absurd (cc)
 source_there v zero (p ∷ ps) e = or_left (p.tape == v) _ (eq-eqb p.tape v (sym (eqb-true v p.tape e)))
 source_there v (suc i) (p ∷ ps) e = or_right (p.tape == v) _ (source_there v i ps e)
 
-found_place : (P : Place → Type 0) (v : ℕ) (ps : List Place) → AllOf P ps → list_any (λ (p : Place). p.tape == v) ps ≡ true → (p : Place) × (find (λ (q : Place). q.tape == v) ps ≡ Some p) × (p.tape ≡ v) × P p
+pub found_place : (P : Place → Type 0) (v : ℕ) (ps : List Place) → AllOf P ps → list_any (λ (p : Place). p.tape == v) ps ≡ true → (p : Place) × (find (λ (q : Place). q.tape == v) ps ≡ Some p) × (p.tape ≡ v) × P p
 found_place P v [] all e = absurd (cc)
 found_place P v (p ∷ ps) all e =
     elim (bool_cases (p.tape == v)) [
@@ -85,7 +85,7 @@ record IsToRead (site : Site) (h : History) (v : ℕ) (j : Job) : Type 0 where
   on : place.tape ≡ v
   fseq : fseq_on site h v j.file ≡ place.fseq
 
-recall_copy : (c : ℕ) → same_direction direction.Retrieve (way_by c) ≡ true → c ≡ 0
+pub recall_copy : (c : ℕ) → same_direction direction.Retrieve (way_by c) ≡ true → c ≡ 0
 recall_copy zero e = refl
 recall_copy (suc c) e = absurd (cc)
 

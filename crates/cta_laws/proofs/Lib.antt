@@ -56,3 +56,4 @@ pub mod FlushedCopies
 pub mod RepackLaw
 pub mod StagePins
 pub mod PinLaw
+pub mod Held

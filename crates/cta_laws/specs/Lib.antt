@@ -12,3 +12,4 @@ pub mod Pins
 pub mod Claims
 pub mod Changes
 pub mod Media
+pub mod Holding

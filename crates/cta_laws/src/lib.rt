@@ -1,9 +1,11 @@
 //! Laws of the archive: what holds of every legal history, whatever callers ask and drives report. Each law is the
 //! contract of a function with no parameters and an empty body, so that a law which no longer follows from the
 //! definitions is a failed check.
+//! The laws of the archive together, said of one legal history: so a clause of what keeps a history can name them all at once.
 #![tactic(auto)]
 
 mod asks;
+mod histories;
 mod jobs;
 mod lengths;
 mod localities;
@@ -16,6 +18,7 @@ mod space;
 mod stages;
 
 pub use asks::asks_are_answered;
+pub use histories::legal_histories_hold;
 pub use jobs::{
     archive_is_resident, archive_key_is_pool, claimed_bytes_move, claimed_once, claimer_moves,
     claims_go_their_way, claims_no_job_twice, ends_for_good, is_queued_or_claimed,

@@ -16,8 +16,9 @@ use Rattle.cta_site.specs.declared.site.Policy.{Policy}
 use Rattle.cta_site.specs.declared.site.Rule.{Rule}
 use Rattle.cta_site.specs.declared.site.RuleKind.{RuleKind}
 use Rattle.cta_site.specs.declared.site.RuleKind.TheVariants.{Requester, Group}
-use Rattle.cta_site.specs.Listed.{rows}
-use Rattle.cta_site.specs.Numbering.{IsByName, IsInOrder}
+use Rattle.cta_values.specs.Listed.{rows}
+use Rattle.cta_values.specs.ByName.{IsByName}
+use Rattle.cta_site.specs.Numbering.{IsInOrder}
 use Rattle.cta_site.proofs.Sets.{false_from_not}
 use Rattle.cta_site.specs.ValidSite.{IsValidSite}
 use Rattle.cta_site.specs.Sites.{small_site, small_directory, small_policy, large_site}

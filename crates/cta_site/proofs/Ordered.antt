@@ -17,7 +17,7 @@ use Rattle.std.specs.declared.cmp.Ordering.TheVariants.{Less}
 use Rattle.cta_site.specs.Items.{first_failing, first_repeat, repeat_after, is_among}
 use Rattle.cta_site.specs.Lookups.{place_by}
 use Rattle.cta_site.specs.Names.{AreAscending}
-use Rattle.cta_site.specs.Numbering.{IsByName}
+use Rattle.cta_values.specs.ByName.{IsByName}
 use Rattle.cta_site.proofs.Sets.{is_among-push, true_from_not}
 
 pub all_map : {A : Type 0} (P Q : A → Type 0) → ((x : A) → P x → Q x) → (xs : List A) → AllByRecursion P xs → AllByRecursion Q xs

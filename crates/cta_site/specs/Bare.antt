@@ -1,6 +1,6 @@
 -- A site without the room of its lists, so that two sites are equal where they say the same.
 use Rattle.cta_site.specs.declared.site.Site.{Site}
-use Rattle.cta_site.specs.Listed.{rows}
+use Rattle.cta_values.specs.Listed.{rows}
 
 -- the site with no room to spare in its lists
 abbrev pub bare_site : Site → Site

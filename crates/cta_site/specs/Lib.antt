@@ -1,4 +1,4 @@
-pub mod Listed
+pub use Rattle.cta_values.specs.Listed
 pub mod Bare
 pub mod Names
 pub mod WellFormed

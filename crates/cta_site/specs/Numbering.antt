@@ -1,8 +1,7 @@
 -- A site with its numbered lists in order.
 use Rattle.std.specs.Prelude.{◌≡◌, ℕ, List}
-use Rattle.std.specs.List.Sorted.{IsPermutation, IsSorted}
-use Rattle.std.specs.Ordering.{nat_cmp}
-use Rattle.std.specs.Cmp.Lexicographic.{slice_cmp}
+use Rattle.std.specs.List.Sorted.{IsPermutation}
+use Rattle.cta_values.specs.ByName.{IsByName}
 use Rattle.cta_site.specs.declared.site.Site.{Site}
 use Rattle.cta_site.specs.declared.site.Vo.{Vo}
 use Rattle.cta_site.specs.declared.site.Class.{Class}
@@ -11,10 +10,6 @@ use Rattle.cta_site.specs.declared.site.Policy.{Policy}
 use Rattle.cta_site.specs.declared.site.Tape.{Tape}
 use Rattle.cta_site.specs.declared.site.Drive.{Drive}
 use Rattle.cta_site.specs.Bare.{bare_site}
-
--- a list is in byte order of its items' names
-abbrev pub IsByName : {A : Type 0} → (A → List ℕ) → List A → Type 0
-IsByName name xs = IsSorted (λ x y. slice_cmp nat_cmp (name x) (name y)) xs
 
 -- each numbered list of a site is in byte order of its names
 pub record IsInOrder (site : Site) : Type 0 where

@@ -1,6 +1,6 @@
 -- Two sites that keep the rules: a smallest one, and a larger one.
 use Rattle.std.specs.Prelude.{ℕ, List, [], ◌∷◌, true, false, codes}
-use Rattle.cta_site.specs.Listed.{rows}
+use Rattle.cta_values.specs.Listed.{rows}
 use Rattle.cta_site.specs.declared.site.Site.{Site}
 use Rattle.cta_site.specs.declared.site.Limits.{Limits}
 use Rattle.cta_site.specs.declared.site.Vo.{Vo}

@@ -5,10 +5,10 @@ ghost use Rattle.cta_site.specs.Faults.{first_fault, IsCauseOf};
 ghost use Rattle.cta_site.specs.Numbering.{IsNumberedFrom};
 
 use crate::faults::first_fault;
-use crate::no_memory::NoMemory;
 use crate::order::sort_site;
 use crate::site::Site;
 use crate::valid_site::ValidSite;
+use cta_values::NoMemory;
 use std::alloc::Global;
 
 /// Why a site is no valid site.

@@ -9,15 +9,15 @@ use crate::forms::{counts_kept, form_fault, size_fault};
 use crate::index::places_of;
 use crate::items::{fault, item, unless};
 use crate::keys::{repeat_of, route_repeat, rule_repeat};
-use crate::named::{Named, names_of};
+use crate::named::names_of;
 use crate::names::Names;
-use crate::no_memory::NoMemory;
 use crate::references::{
     class_without_routes, class_without_vo, directory_without_class, drive_without_library,
     failure_without_drive, pool_without_vo, route_across_vos, route_without_class,
     route_without_pool, rule_without_policy, tape_without_home,
 };
 use crate::site::Site;
+use cta_values::{Named, NoMemory};
 use std::alloc::Global;
 
 // The names that elements have, to be looked up.

@@ -5,10 +5,10 @@ ghost use Rattle.cta_site.specs.Items.{first_failing};
 ghost use Rattle.cta_site.specs.WellFormed.{AreCounts};
 
 use crate::items::{fault, is_within, item, unless};
-use crate::named::Named;
 use crate::ranges::out_of_range;
 use crate::site::{Limits, Site};
 use crate::spelling::{are_address_bytes, is_name};
+use cta_values::Named;
 
 // Whether the site's own texts are of their form.
 fn are_texts(site: &Site) -> bool

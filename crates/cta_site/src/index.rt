@@ -5,9 +5,8 @@ ghost use Rattle.cta_site.specs.Index.{HasPlaces, HasRoutes, HasAllRoutes, HasRu
 ghost use Rattle.cta_site.specs.WellFormed.{AreCounts};
 
 use crate::name_map::NameMap;
-use crate::named::Named;
-use crate::no_memory::NoMemory;
 use crate::site::{Route, Rule, RuleKind, Site};
+use cta_values::{Named, NoMemory};
 use std::alloc::Global;
 
 // The routes of the classes: for each copy, the place of the first route of a class.

@@ -5,10 +5,10 @@ ghost use Rattle.cta_site.specs.Keys as said;
 ghost use Rattle.cta_site.specs.References.{same_ends, same_caller};
 
 use crate::items::{fault, item};
-use crate::named::{Named, names_of};
+use crate::named::names_of;
 use crate::names::first_repeat;
-use crate::no_memory::NoMemory;
 use crate::site::{Route, Rule, RuleKind};
+use cta_values::{Named, NoMemory};
 use std::alloc::Global;
 
 // A text with each byte behind a 1, and a 0 behind all.

@@ -12,8 +12,8 @@ ghost use Rattle.cta_site.specs.declared.site.RuleKind.TheVariants.{Requester, G
 
 use crate::index::RouteIndex;
 use crate::name_map::NameMap;
-use crate::named::Named;
 use crate::site::{Class, Directory, Route, Rule};
+use cta_values::Named;
 
 // The item at a place, where there is one.
 fn item_at<T>(items: &[T], place: Option<u32>) -> Option<&T>

@@ -3,7 +3,7 @@ ghost use Rattle.std.specs.Prelude.{◌≡◌, ℕ, List, None, IfOk, bytes_eq, 
 ghost use Rattle.std.specs.Option.{option_or};
 ghost use Rattle.cta_site.specs.NameMap.{number_in};
 
-use crate::no_memory::NoMemory;
+use cta_values::NoMemory;
 use std::alloc::Global;
 use std::collections::BTreeMap;
 

@@ -1,18 +1,9 @@
 // What has a name, by which it is numbered.
-ghost use Rattle.std.specs.Prelude.{◌≡◌, ℕ, List, IfOk, map};
+ghost use Rattle.std.specs.Prelude.{◌≡◌, IfOk, map};
 
-use crate::no_memory::NoMemory;
 use crate::site::{Class, Directory, Drive, Policy, Tape, TapePool, Vo};
-use crate::text::Text;
+use cta_values::{Named, NoMemory};
 use std::alloc::Global;
-
-// What has a name.
-pub(crate) trait Named: Drop {
-    ghost name_of: { Self → List ℕ };
-
-    fn name(&self) -> &[u8]
-        ensures { result.now ≡ name_of self.now };
-}
 
 impl Named for Vo {
     ghost name_of = { λ v. v.name };
@@ -46,14 +37,6 @@ impl Named for Policy {
     }
 }
 
-impl Named for Text {
-    ghost name_of = { λ t. t };
-
-    fn name(&self) -> &[u8] {
-        self.as_bytes()
-    }
-}
-
 impl Named for Tape {
     ghost name_of = { λ t. t.vid };
 
@@ -75,14 +58,6 @@ impl Named for Directory {
 
     fn name(&self) -> &[u8] {
         self.path.as_bytes()
-    }
-}
-
-impl Named for Vec<u8> {
-    ghost name_of = { λ b. b.items };
-
-    fn name(&self) -> &[u8] {
-        self.as_slice()
     }
 }
 

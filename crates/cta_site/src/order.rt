@@ -1,10 +1,11 @@
 // Numbered lists in the order of their names.
 ghost use Rattle.std.specs.Prelude.{◌≡◌, OnOk};
 ghost use Rattle.std.specs.List.Sorted.{IsPermutation};
-ghost use Rattle.cta_site.specs.Numbering.{IsByName, IsInOrder, Rearranges};
+ghost use Rattle.cta_values.specs.ByName.{IsByName};
+ghost use Rattle.cta_site.specs.Numbering.{IsInOrder, Rearranges};
 
-use crate::no_memory::NoMemory;
 use crate::site::Site;
+use cta_values::NoMemory;
 
 // Sorts each numbered list of a site by name. After NoMemory the lists that came before are sorted.
 pub(crate) fn sort_site(site: &mut Site) -> Result<(), NoMemory>

@@ -20,10 +20,10 @@ ghost use Rattle.cta_site.specs.declared.site.Site.{Site};
 use crate::lookups::element_of;
 use crate::name_map::NameMap;
 use crate::names::Names;
-use crate::no_memory::NoMemory;
 use crate::paths::is_path;
 use crate::site::{Class, Directory, Drive, Failure, Route, Rule, Site, Tape, TapePool};
 use crate::tally::Tally;
+use cta_values::NoMemory;
 use std::alloc::Global;
 
 // How many routes each class has for this copy.

@@ -1,7 +1,6 @@
 // A site as its file says it.
 
-use crate::rows::Rows;
-use crate::text::Text;
+use cta_values::{Rows, Text};
 
 /// A site as its file says it; whether it keeps the rules of a site is said by `ValidSite`. The members are those of
 /// this project's own site file.

@@ -2,7 +2,7 @@
 ghost use Rattle.std.specs.Prelude.{◌≡◌, ◌<◌, ◌+◌, ◌^◌, ℕ, List, IfOk, bytes_eq, if◌then◌else◌};
 ghost use Rattle.cta_site.specs.NameMap.{count_in};
 
-use crate::no_memory::NoMemory;
+use cta_values::NoMemory;
 use std::alloc::Global;
 use std::collections::BTreeMap;
 

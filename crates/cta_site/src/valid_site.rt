@@ -8,11 +8,10 @@ ghost use Rattle.cta_site.specs.WellFormed.{IsWellFormed};
 
 use crate::index::Index;
 use crate::lookups::{copies_at, directory_of, number_of, policy_name, route_of};
-use crate::no_memory::NoMemory;
 use crate::site::{
     Class, Directory, Drive, Failure, Limits, Policy, Route, Rule, Site, Tape, TapePool, Vo,
 };
-use crate::text::Text;
+use cta_values::{NoMemory, Text};
 use std::alloc::Global;
 use std::marker::Model;
 

@@ -5,14 +5,14 @@ use Rattle.std.specs.Map.{lookup}
 use Rattle.blob.specs.declared.sum.Sum256.{Sum256}
 use Rattle.blob.specs.Sums.{sum_of}
 use Rattle.cta_model.specs.History.{has_number}
-use Rattle.part_values.specs.Held.{bytes_of}
+use Rattle.part_model.specs.Held.{bytes_of}
 use Rattle.std.proofs.Math.Bool.{beq}
 use Rattle.std.proofs.Math.ListN.{set}
 use Rattle.sum_trees.specs.Forests.{items_in}
 use Rattle.sum_trees.specs.Order.{has_like, inserted, is_like, replaced, unlike}
 use Rattle.sum_trees.proofs.Orders.{clash, unpicked}
 use Rattle.disk_buffer.specs.declared.row.Row.{Row}
-use Rattle.disk_buffer.specs.declared.arrivals.Kept.{Kept}
+use Rattle.disk_buffer.specs.declared.arrivals.StoredFile.{StoredFile}
 use Rattle.disk_buffer.specs.Rows.{row_before}
 use Rattle.disk_buffer.specs.Stays.{AreApart, AreEarly, AreKept, AreReady, IsRowOf, Stay, arrival_in, content_in, ended, flagged, is_free, is_there, residents, stay_of, stays_of, with_end, with_flag, without_file}
 use Rattle.disk_buffer.specs.Contents.{contents_of}
@@ -340,28 +340,28 @@ stays_last r rs v e = last_stays r rs ∙ ap (λ l. l ++ stay_of r ∷ []) e
 
 -- ---- contents
 
-abbrev pub kept_sum : Option Kept → Option Sum256
-kept_sum o = option_map (λ (k : Kept). sum_of k.blob.value) o
+abbrev pub kept_sum : Option StoredFile → Option Sum256
+kept_sum o = option_map (λ (k : StoredFile). sum_of k.blob.value) o
 
-pub content_same : (es fs : List (ℕ × Kept)) (v : List (ℕ × Sum256)) (g : ℕ) → contents_of es ≡ v → kept_sum (lookup (nat_eq g) fs) ≡ kept_sum (lookup (nat_eq g) es) → content_in (contents_of fs) g ≡ content_in v g
+pub content_same : (es fs : List (ℕ × StoredFile)) (v : List (ℕ × Sum256)) (g : ℕ) → contents_of es ≡ v → kept_sum (lookup (nat_eq g) fs) ≡ kept_sum (lookup (nat_eq g) es) → content_in (contents_of fs) g ≡ content_in v g
 content_same es fs v g e h = content_is fs g ∙ h ∙ sym (content_is es g) ∙ ap (λ l. content_in l g) e
 
-pub content_put : (es fs : List (ℕ × Kept)) (v : List (ℕ × Sum256)) (f : ℕ) (s : Sum256) (g : ℕ) → contents_of es ≡ v → kept_sum (lookup (nat_eq g) fs) ≡ (if f == g then Some s else kept_sum (lookup (nat_eq g) es))
+pub content_put : (es fs : List (ℕ × StoredFile)) (v : List (ℕ × Sum256)) (f : ℕ) (s : Sum256) (g : ℕ) → contents_of es ≡ v → kept_sum (lookup (nat_eq g) fs) ≡ (if f == g then Some s else kept_sum (lookup (nat_eq g) es))
     → content_in (contents_of fs) g ≡ (if g == f then Some s else content_in v g)
 content_put es fs v f s g e h = content_is fs g ∙ h ∙ (λ i. if flip_nat f g i then Some s else (sym (content_is es g) ∙ ap (λ l. content_in l g) e) i)
 
-pub content_cut : (es fs : List (ℕ × Kept)) (v : List (ℕ × Sum256)) (f g : ℕ) → contents_of es ≡ v → kept_sum (lookup (nat_eq g) fs) ≡ (if f == g then None else kept_sum (lookup (nat_eq g) es))
+pub content_cut : (es fs : List (ℕ × StoredFile)) (v : List (ℕ × Sum256)) (f g : ℕ) → contents_of es ≡ v → kept_sum (lookup (nat_eq g) fs) ≡ (if f == g then None else kept_sum (lookup (nat_eq g) es))
     → content_in (contents_of fs) g ≡ (if g == f then None else content_in v g)
 content_cut es fs v f g e h = content_is fs g ∙ h ∙ (λ i. if flip_nat f g i then None else (sym (content_is es g) ∙ ap (λ l. content_in l g) e) i)
 
-pub content_none : (es : List (ℕ × Kept)) (v : List (ℕ × Sum256)) (f g : ℕ) → contents_of es ≡ v → option_map (λ (k : Kept). k.arrival) (lookup (nat_eq f) es) ≡ None → content_in v g ≡ (if g == f then None else content_in v g)
+pub content_none : (es : List (ℕ × StoredFile)) (v : List (ℕ × Sum256)) (f g : ℕ) → contents_of es ≡ v → option_map (λ (k : StoredFile). k.arrival) (lookup (nat_eq f) es) ≡ None → content_in v g ≡ (if g == f then None else content_in v g)
 content_none es v f g e h =
     elim (g == f) as (λ c. (g == f) ≡ c → content_in v g ≡ (if c then None else content_in v g)) [
       | true ↦ λ k. ap (content_in v) (is_same g f k) ∙ sym (ap (λ l. content_in l f) e) ∙ content_is es f ∙ no_sum (lookup (nat_eq f) es) h
       | false ↦ λ k. refl
     ] refl
   where
-    no_sum : (o : Option Kept) → option_map (λ (k : Kept). k.arrival) o ≡ None → kept_sum o ≡ None
+    no_sum : (o : Option StoredFile) → option_map (λ (k : StoredFile). k.arrival) o ≡ None → kept_sum o ≡ None
     no_sum None h = refl
     no_sum (Some k) h = absurd (cc)
 

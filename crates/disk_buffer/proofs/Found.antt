@@ -7,7 +7,7 @@ use Rattle.blob.specs.Sums.{sum_of}
 use Rattle.sum_trees.specs.Order.{GoesFirst, IsSorted, first_like, first_of, has_like, is_like}
 use Rattle.sum_trees.proofs.Orders.{IsOrder, clash}
 use Rattle.disk_buffer.specs.declared.row.Row.{Row}
-use Rattle.disk_buffer.specs.declared.arrivals.Kept.{Kept}
+use Rattle.disk_buffer.specs.declared.arrivals.StoredFile.{StoredFile}
 use Rattle.disk_buffer.specs.Rows.{row_before}
 use Rattle.disk_buffer.specs.Laws.{rows_one_way, rows_split}
 use Rattle.disk_buffer.specs.Stays.{AreApart, IsRowOf, TellsRow, arrival_in, content_in}
@@ -142,18 +142,18 @@ row_told f a rs q (Some r) there e p s h = let t = row_found a f q r rs e (key_o
 
 -- ---- what is kept
 
-kept_sum : Kept → Sum256
+kept_sum : StoredFile → Sum256
 kept_sum k = sum_of k.blob.value
 
 pub flip_nat : (x y : ℕ) → (x == y) ≡ (y == x)
 flip_nat x y = grind arith
 
-map_if : (c : Bool) (k : Kept) (o : Option Kept) → (if c then Some (sum_of k.blob.value) else option_map (λ (k : Kept). sum_of k.blob.value) o) ≡ option_map (λ (k : Kept). sum_of k.blob.value) (cond c (Some k) o)
+map_if : (c : Bool) (k : StoredFile) (o : Option StoredFile) → (if c then Some (sum_of k.blob.value) else option_map (λ (k : StoredFile). sum_of k.blob.value) o) ≡ option_map (λ (k : StoredFile). sum_of k.blob.value) (cond c (Some k) o)
 map_if true k o = refl
 map_if false k o = refl
 
 -- the contents are the sums of what is found
-pub content_is : (es : List (ℕ × Kept)) (f : ℕ) → content_in (contents_of es) f ≡ option_map (λ (k : Kept). sum_of k.blob.value) (lookup (nat_eq f) es)
+pub content_is : (es : List (ℕ × StoredFile)) (f : ℕ) → content_in (contents_of es) f ≡ option_map (λ (k : StoredFile). sum_of k.blob.value) (lookup (nat_eq f) es)
 content_is [] f = refl
 content_is (e ∷ es) f = (λ i. if flip_nat e.0 f i then Some (sum_of e.1.blob.value) else content_is es f i) ∙ map_if (f == e.0) e.1 (lookup (nat_eq f) es)
 

@@ -4,9 +4,9 @@ use Rattle.std.specs.Prelude.{◌==◌, not, filter, map, max, nat_lt, if◌then
 use Rattle.std.specs.List.{slice_index_or}
 use Rattle.blob.specs.declared.sum.Sum256.{Sum256}
 use Rattle.cta_model.specs.History.{has_number}
-use Rattle.part_values.specs.declared.space.HeldPin.{HeldPin}
-use Rattle.part_values.specs.declared.space.Resident.{Resident}
-use Rattle.part_values.specs.Held.{Held, bytes_of, evictable_in, numbers, pinned_in, pins_without, without}
+use Rattle.part_model.specs.declared.space.HeldPin.{HeldPin}
+use Rattle.part_model.specs.declared.space.Resident.{Resident}
+use Rattle.part_model.specs.Held.{Held, bytes_of, evictable_in, numbers, pinned_in, pins_without, without}
 use Rattle.sum_trees.proofs.Orders.{clash}
 use Rattle.disk_buffer.specs.PinRows.{end_in}
 use Rattle.disk_buffer.specs.Stays.{Stay, going, may_go, resident_of, residents, with_end, with_flag, without_file}

@@ -2,8 +2,8 @@
 use Rattle.std.proofs.Common.{◌≡◌, ◌∙◌, ◌<◌, ◌≤◌, ◌+◌, ℕ, suc, List, [], ◌∷◌, length, Option, Some, None, Bool, true, false, ◌||◌, ◌&&◌, refl, sym, ap, subst, arith}
 use Rattle.std.specs.Prelude.{◌==◌, not, filter, is_some, max, nat_lt, if◌then◌else◌}
 use Rattle.std.proofs.Math.ListN.{set}
-use Rattle.part_values.specs.declared.space.HeldPin.{HeldPin}
-use Rattle.part_values.specs.Held.{pins_in, pins_without}
+use Rattle.part_model.specs.declared.space.HeldPin.{HeldPin}
+use Rattle.part_model.specs.Held.{pins_in, pins_without}
 use Rattle.sum_trees.specs.Sums.{Sums, led, sum_of}
 use Rattle.sum_trees.specs.Order.{GoesFirst, IsSorted, between, first_from, first_like, first_of, has_like, inserted, is_like, replaced, unlike}
 use Rattle.sum_trees.specs.Forests.{items_in}

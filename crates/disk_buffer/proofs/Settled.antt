@@ -1,7 +1,7 @@
 -- Rows that become ready.
 use Rattle.std.proofs.Common.{◌≡◌, ◌∙◌, ◌<◌, ◌≤◌, ◌+◌, ◌^◌, ℕ, suc, List, [], ◌∷◌, length, Option, Some, None, Bool, true, false, ◌||◌, ◌&&◌, refl, sym, ap, subst, arith}
 use Rattle.std.specs.Prelude.{◌==◌, not, filter, nat_lt, nat_le, if◌then◌else◌}
-use Rattle.part_values.specs.Held.{bytes_of}
+use Rattle.part_model.specs.Held.{bytes_of}
 use Rattle.sum_trees.specs.Sums.{Sums, led, sum_of}
 use Rattle.sum_trees.specs.Order.{GoesFirst, IsSorted, first_of, has_like, is_like, replaced}
 use Rattle.sum_trees.proofs.Orders.{clash}

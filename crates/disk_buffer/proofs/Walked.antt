@@ -1,8 +1,8 @@
 -- Walks over the rows that are sought.
 use Rattle.std.proofs.Common.{◌≡◌, ◌∙◌, ◌<◌, ◌≤◌, ◌+◌, ◌-◌, ◌^◌, ℕ, zero, suc, List, [], ◌∷◌, ◌++◌, length, Option, Some, None, Bool, true, false, ◌||◌, ◌&&◌, refl, sym, ap, arith, append_assoc, length-append}
 use Rattle.std.specs.Prelude.{not, filter, nat_lt, nat_le, if◌then◌else◌}
-use Rattle.part_values.specs.declared.space.Resident.{Resident}
-use Rattle.part_values.specs.Held.{bytes_of, numbers, prefix_of}
+use Rattle.part_model.specs.declared.space.Resident.{Resident}
+use Rattle.part_model.specs.Held.{bytes_of, numbers, prefix_of}
 use Rattle.sum_trees.specs.Order.{GoesFirst, IsSorted, first_of}
 use Rattle.sum_trees.proofs.Orders.{clash, leads, unpicked}
 use Rattle.disk_buffer.specs.declared.row.Row.{Row}

@@ -1,7 +1,7 @@
 -- The rows of pins, and the pins that they are.
 use Rattle.std.specs.Prelude.{ℕ, ◌≡◌, ◌==◌, List, [], ◌∷◌, Option, Some, None, Bool, true, ◌&&◌, ◌||◌, max, nat_lt, map, if◌then◌else◌}
-use Rattle.part_values.specs.declared.space.HeldPin.{HeldPin}
-use Rattle.part_values.specs.Held.{pins_without}
+use Rattle.part_model.specs.declared.space.HeldPin.{HeldPin}
+use Rattle.part_model.specs.Held.{pins_without}
 use Rattle.sum_trees.specs.Order.{has_like}
 use Rattle.disk_buffer.specs.declared.pin_row.PinRow.{PinRow}
 

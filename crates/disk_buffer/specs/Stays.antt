@@ -2,8 +2,8 @@
 use Rattle.std.specs.Prelude.{ℕ, ◌≡◌, ◌<◌, List, [], ◌∷◌, Option, Some, None, Bool, true, not, ◌==◌, ◌&&◌, if◌then◌else◌, map, filter, nat_le, nat_lt}
 use Rattle.blob.specs.declared.sum.Sum256.{Sum256}
 use Rattle.cta_model.specs.History.{has_number}
-use Rattle.part_values.specs.declared.space.Resident.{Resident}
-use Rattle.part_values.specs.Held.{bytes_of, numbers}
+use Rattle.part_model.specs.declared.space.Resident.{Resident}
+use Rattle.part_model.specs.Held.{bytes_of, numbers}
 use Rattle.sum_trees.specs.Order.{has_like, is_like}
 use Rattle.disk_buffer.specs.declared.row.Row.{Row}
 use Rattle.disk_buffer.specs.Rows.{row_before}

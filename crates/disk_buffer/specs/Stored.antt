@@ -1,9 +1,9 @@
 -- What contracts see of the buffer.
 use Rattle.std.specs.Prelude.{ℕ, ◌≡◌, List, [], ◌∷◌}
 use Rattle.blob.specs.declared.sum.Sum256.{Sum256}
-use Rattle.part_values.specs.declared.space.HeldPin.{HeldPin}
-use Rattle.part_values.specs.Held.{Held}
-use Rattle.part_values.specs.Room.{Roomed}
+use Rattle.part_model.specs.declared.space.HeldPin.{HeldPin}
+use Rattle.part_model.specs.Held.{Held}
+use Rattle.part_model.specs.Room.{Roomed}
 use Rattle.disk_buffer.specs.PinRows.{end_in}
 use Rattle.disk_buffer.specs.Stays.{Stay}
 

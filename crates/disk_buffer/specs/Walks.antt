@@ -1,6 +1,6 @@
 -- Walks over the rows that are sought.
 use Rattle.std.specs.Prelude.{ℕ, ◌-◌, List, [], ◌∷◌, Option, Some, None, ◌&&◌, if◌then◌else◌, filter, nat_le}
-use Rattle.part_values.specs.declared.space.Resident.{Resident}
+use Rattle.part_model.specs.declared.space.Resident.{Resident}
 use Rattle.disk_buffer.specs.declared.row.Row.{Row}
 use Rattle.disk_buffer.specs.declared.row.Wanted.{Wanted}
 use Rattle.disk_buffer.specs.Rows.{has_wanted, own_readiness, row_before}

@@ -2,7 +2,7 @@
 ghost use Rattle.std.specs.Prelude.{◌≡◌, ◌+◌, ◌-◌, ◌<◌, ◌≤◌, ◌^◌, ◌∷◌, [], ◌++◌, ◌==◌, ℕ, Some, None, IfOk, OnOk, false, true, if◌then◌else◌, length, nat_eq, nat_le, option_map};
 ghost use Rattle.std.specs.HashMap.{get, spare};
 ghost use Rattle.blob.specs.Sums.{sum_of};
-ghost use Rattle.part_values.specs.Held.{bytes_of, numbers, prefix_of};
+ghost use Rattle.part_model.specs.Held.{bytes_of, numbers, prefix_of};
 ghost use Rattle.sum_trees.specs.Forests.{items_in};
 ghost use Rattle.disk_buffer.specs.Stays.{AreApart, TellsRow, arrival_in, content_in, ended, flagged, going, is_there, residents, with_end, with_flag, without_file};
 
@@ -19,7 +19,7 @@ use sum_trees::Forest;
 
 // What is kept of a resident file beside its row: the number of its arrival, and its content.
 #[derive(Drop)]
-pub(crate) struct Kept {
+pub(crate) struct StoredFile {
     pub(crate) arrival: u64,
     pub(crate) blob: Arc<Blob>,
 }
@@ -29,7 +29,7 @@ pub(crate) struct Kept {
 #[derive(Drop)]
 pub(crate) struct Arrivals {
     pub(crate) forest: Forest<Row>,
-    pub(crate) kept: NumberMap<u32, Kept>,
+    pub(crate) kept: NumberMap<u32, StoredFile>,
     pub(crate) clock: u64,
     pub(crate) next: u64,
     pub(crate) bytes: u64,
@@ -64,7 +64,7 @@ fn row_like(arrival: u64) -> Row
 }
 
 // The number of a file's arrival, None exactly where it is not there.
-fn arrival_of(kept: &NumberMap<u32, Kept>, file: u32) -> Option<u64>
+fn arrival_of(kept: &NumberMap<u32, StoredFile>, file: u32) -> Option<u64>
     ensures { result ≡ option_map (λ k. k.arrival) (get nat_eq kept.now file) }
 {
     match kept.get(&file) {
@@ -74,7 +74,7 @@ fn arrival_of(kept: &NumberMap<u32, Kept>, file: u32) -> Option<u64>
 }
 
 // The row of a file.
-fn row_of(forest: &Forest<Row>, kept: &NumberMap<u32, Kept>, file: u32) -> Option<Row>
+fn row_of(forest: &Forest<Row>, kept: &NumberMap<u32, StoredFile>, file: u32) -> Option<Row>
     requires one { length forest.now.trees ≡ 1 }
     requires apart { AreApart (items_in forest.now.trees 0) }
     requires found { (f : ℕ) → option_map (λ k. k.arrival) (get nat_eq kept.now f) ≡ arrival_in (items_in forest.now.trees 0) f }
@@ -87,20 +87,20 @@ fn row_of(forest: &Forest<Row>, kept: &NumberMap<u32, Kept>, file: u32) -> Optio
 }
 
 // Keeps a file's content, for which there is room.
-fn keep(kept: &mut NumberMap<u32, Kept>, file: u32, arrival: u64, blob: Arc<Blob>)
+fn keep(kept: &mut NumberMap<u32, StoredFile>, file: u32, arrival: u64, blob: Arc<Blob>)
     requires { 0 < spare kept.old }
     ensures places { (f : ℕ) → option_map (λ k. k.arrival) (get nat_eq kept.new f) ≡ (if file == f then Some arrival else option_map (λ k. k.arrival) (get nat_eq kept.old f)) }
     ensures sums { (f : ℕ) → option_map (λ k. sum_of k.blob.value) (get nat_eq kept.new f) ≡ (if file == f then Some (sum_of blob.value) else option_map (λ k. sum_of k.blob.value) (get nat_eq kept.old f)) }
     ensures room { spare kept.old ≤ spare kept.new + 1 }
 {
-    match kept.insert(file, Kept { arrival, blob }) {
+    match kept.insert(file, StoredFile { arrival, blob }) {
         Ok(_) => {}
         Err(_) => unreachable!(),
     }
 }
 
 // Drops a file's content.
-fn forget(kept: &mut NumberMap<u32, Kept>, file: u32)
+fn forget(kept: &mut NumberMap<u32, StoredFile>, file: u32)
     ensures places { (f : ℕ) → option_map (λ k. k.arrival) (get nat_eq kept.new f) ≡ (if file == f then None else option_map (λ k. k.arrival) (get nat_eq kept.old f)) }
     ensures sums { (f : ℕ) → option_map (λ k. sum_of k.blob.value) (get nat_eq kept.new f) ≡ (if file == f then None else option_map (λ k. sum_of k.blob.value) (get nat_eq kept.old f)) }
     ensures room { spare kept.old ≤ spare kept.new }
@@ -109,7 +109,7 @@ fn forget(kept: &mut NumberMap<u32, Kept>, file: u32)
 }
 
 // The content that is kept of a file.
-fn blob_of(kept: &NumberMap<u32, Kept>, file: u32) -> Option<&Arc<Blob>>
+fn blob_of(kept: &NumberMap<u32, StoredFile>, file: u32) -> Option<&Arc<Blob>>
     ensures { option_map (λ b. sum_of b.now.value) result ≡ option_map (λ k. sum_of k.blob.value) (get nat_eq kept.now file) }
 {
     match kept.get(&file) {
@@ -119,7 +119,7 @@ fn blob_of(kept: &NumberMap<u32, Kept>, file: u32) -> Option<&Arc<Blob>>
 }
 
 // Makes room for the contents of so many more files.
-fn make_room(kept: &mut NumberMap<u32, Kept>, more: u32) -> Result<(), NoMemory>
+fn make_room(kept: &mut NumberMap<u32, StoredFile>, more: u32) -> Result<(), NoMemory>
     ensures places { (f : ℕ) → option_map (λ k. k.arrival) (get nat_eq kept.new f) ≡ option_map (λ k. k.arrival) (get nat_eq kept.old f) }
     ensures sums { (f : ℕ) → option_map (λ k. sum_of k.blob.value) (get nat_eq kept.new f) ≡ option_map (λ k. sum_of k.blob.value) (get nat_eq kept.old f) }
     ensures room { OnOk result (more ≤ spare kept.new) }

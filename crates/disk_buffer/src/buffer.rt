@@ -2,7 +2,7 @@
 ghost use Rattle.std.specs.Prelude.{ℕ, ◌≡◌, ◌+◌, ◌<◌, ◌≤◌, ◌^◌, ◌==◌, ◌++◌, ◌∷◌, [], Some, None, IfOk, OnOk, false, if◌then◌else◌, length, option_map};
 ghost use Rattle.blob.specs.Sums.{sum_of};
 ghost use Rattle.cta_model.specs.History.{has_number};
-ghost use Rattle.part_values.specs.Held.{HeldAgree, bytes_of, enter, evict, evictable_in, evicted_for, free_in, hold, is_held, pin, pins_without, remove, set_safe, unhold, unpin, without};
+ghost use Rattle.part_model.specs.Held.{HeldAgree, bytes_of, enter, evict, evictable_in, evicted_for, free_in, hold, is_held, pin, pins_without, remove, set_safe, unhold, unpin, without};
 ghost use Rattle.disk_buffer.specs.Stays.{content_in};
 ghost use Rattle.disk_buffer.specs.Stored.{nothing_held};
 
@@ -16,7 +16,7 @@ use std::sync::Arc;
 
 /// The disk buffer: the resident files by arrival with their contents, the bytes that are set aside for claimed recalls, and the
 /// pins. Files and owners are named by their numbers, and a pin ends at a moment in seconds since 1970. Contracts see a `Held`
-/// of `part_values` with its room, and the sum of each content. This project's own.
+/// of `part_model` with its room, and the sum of each content. This project's own.
 #[derive(Drop)]
 pub struct DiskBuffer {
     size: u64,
@@ -28,7 +28,7 @@ pub struct DiskBuffer {
 
 impl Model for DiskBuffer {
     ghost use Rattle.std.specs.Prelude.{◌+◌, ◌<◌, ◌≤◌, ◌^◌};
-    ghost use Rattle.part_values.specs.Held.{bytes_of};
+    ghost use Rattle.part_model.specs.Held.{bytes_of};
     ghost use Rattle.disk_buffer.specs.Stays.{residents};
     ghost use Rattle.disk_buffer.specs.Stored.{AreEnds, Stored};
 

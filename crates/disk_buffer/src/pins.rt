@@ -1,7 +1,7 @@
 // The pins.
 ghost use Rattle.std.specs.Prelude.{◌≡◌, ◌∷◌, [], ◌+◌, ◌<◌, ◌≤◌, ℕ, false, length, IfOk, OnOk, not, ◌==◌, ◌&&◌, filter};
-ghost use Rattle.part_values.specs.declared.space.HeldPin.{HeldPin};
-ghost use Rattle.part_values.specs.Held.{pins_in, pins_without};
+ghost use Rattle.part_model.specs.declared.space.HeldPin.{HeldPin};
+ghost use Rattle.part_model.specs.Held.{pins_in, pins_without};
 ghost use Rattle.sum_trees.specs.Forests.{items_in};
 ghost use Rattle.disk_buffer.specs.PinRows.{TellsPin, end_in, later_end};
 
@@ -20,8 +20,8 @@ pub(crate) struct Pins {
 
 impl Model for Pins {
     ghost use Rattle.std.specs.Prelude.{◌≡◌, List, length};
-    ghost use Rattle.part_values.specs.declared.space.HeldPin.{HeldPin};
-    ghost use Rattle.part_values.specs.Room.{Roomed};
+    ghost use Rattle.part_model.specs.declared.space.HeldPin.{HeldPin};
+    ghost use Rattle.part_model.specs.Room.{Roomed};
     ghost use Rattle.sum_trees.specs.Forests.{items_in};
     ghost use Rattle.disk_buffer.specs.PinRows.{pins_of};
 

@@ -1,6 +1,6 @@
 // Rows that become ready.
 ghost use Rattle.std.specs.Prelude.{◌≡◌, ◌<◌, ◌≤◌, ◌^◌, length};
-ghost use Rattle.part_values.specs.Held.{bytes_of};
+ghost use Rattle.part_model.specs.Held.{bytes_of};
 ghost use Rattle.sum_trees.specs.Forests.{items_in};
 ghost use Rattle.disk_buffer.specs.Stays.{residents, stays_of};
 ghost use Rattle.disk_buffer.specs.Settling.{AreSettled, NoneWaits, ready_rows, settled};

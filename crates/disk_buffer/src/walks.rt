@@ -1,6 +1,6 @@
 // Walks over the rows that are sought.
 ghost use Rattle.std.specs.Prelude.{◌≡◌, ◌+◌, ◌<◌, ◌≤◌, ◌^◌, ◌∷◌, [], ◌++◌, true, length};
-ghost use Rattle.part_values.specs.Held.{bytes_of, numbers, prefix_of};
+ghost use Rattle.part_model.specs.Held.{bytes_of, numbers, prefix_of};
 ghost use Rattle.sum_trees.specs.Forests.{items_in};
 ghost use Rattle.disk_buffer.specs.Stays.{stays_of, residents};
 ghost use Rattle.disk_buffer.specs.Walks.{ended_by, lacking_behind, sought};

@@ -1,7 +1,7 @@
 -- What `work` and `take` keep.
 use Rattle.std.specs.Prelude.{◌≡◌, Option, Some, None, Result, Ok, Err, true, false}
 use Rattle.blob.specs.Records.{MediumView}
-use Rattle.cta_site.specs.declared.no_memory.NoMemory.{NoMemory}
+use Rattle.cta_values.specs.declared.no_memory.NoMemory.{NoMemory}
 use Rattle.cta_site.specs.declared.site.Site.{Site}
 use Rattle.cta_model.specs.declared.answers.Answer.{Answer}
 use Rattle.cta_model.specs.declared.asks.Ask.{Ask}

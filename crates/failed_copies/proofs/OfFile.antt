@@ -4,7 +4,7 @@ use Rattle.std.specs.Prelude.{Option, ◌==◌, ◌&&◌, not, filter, if◌then
 use Rattle.std.proofs.lemmas.Bool.{eqb-true, eq-eqb}
 use Rattle.cta_model.specs.declared.asks.Job.{Job}
 use Rattle.cta_model.specs.Mounts.{has_copy}
-use Rattle.part_values.specs.Failed.{removed_copies, removed_file}
+use Rattle.part_model.specs.Failed.{removed_copies, removed_file}
 use Rattle.sum_trees.specs.Order.{IsSorted, GoesFirst, first_of, first_from}
 use Rattle.sum_trees.specs.Forests.{items_in}
 use Rattle.failed_copies.specs.declared.rows.FailedRow.{FailedRow}

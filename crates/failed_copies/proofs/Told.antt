@@ -4,8 +4,8 @@ use Rattle.std.specs.Prelude.{◌==◌, ◌&&◌, not, filter, if◌then◌else�
 use Rattle.std.proofs.Math.ListN.{set}
 use Rattle.cta_model.specs.declared.asks.Job.{Job}
 use Rattle.cta_model.specs.Mounts.{has_copy, same_job}
-use Rattle.part_values.specs.Order.{goes_before, insert_job, first_job, next_job}
-use Rattle.part_values.specs.Failed.{added_copies, removed_copies}
+use Rattle.part_model.specs.Order.{goes_before, insert_job, first_job, next_job}
+use Rattle.part_model.specs.Failed.{added_copies, removed_copies}
 use Rattle.sum_trees.specs.Order.{inserted, unlike, is_like, has_like, first_of, first_after}
 use Rattle.sum_trees.specs.Forests.{items_in}
 use Rattle.sum_trees.proofs.Stands.{set_here}

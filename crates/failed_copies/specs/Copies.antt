@@ -3,7 +3,7 @@ use Rattle.std.specs.Prelude.{ℕ, ◌≡◌, ◌==◌, List, Option, Some, None
 use Rattle.std.specs.List.{list_any}
 use Rattle.cta_model.specs.declared.asks.Job.{Job}
 use Rattle.cta_model.specs.Mounts.{has_copy, job_of}
-use Rattle.part_values.specs.Order.{goes_before}
+use Rattle.part_model.specs.Order.{goes_before}
 use Rattle.failed_copies.specs.declared.rows.FailedRow.{FailedRow}
 
 -- a copy as a job with birth 0

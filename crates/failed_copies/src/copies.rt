@@ -1,9 +1,9 @@
 // The failed copies.
 ghost use Rattle.std.specs.Prelude.{◌≡◌, ◌+◌, ◌<◌, ◌≤◌, [], ◌∷◌, IfOk, OnOk, Some, false};
 ghost use Rattle.cta_model.specs.Mounts.{has_copy, job_of};
-ghost use Rattle.part_values.specs.Failed.{added_copies, removed_copies, removed_file};
+ghost use Rattle.part_model.specs.Failed.{added_copies, removed_copies, removed_file};
 ghost use Rattle.failed_copies.specs.Copies.{IsOfFile};
-ghost use Rattle.part_values.specs.Order.{first_job, next_job};
+ghost use Rattle.part_model.specs.Order.{first_job, next_job};
 
 use crate::rows::FailedRow;
 use cta_model::Job;
@@ -22,7 +22,7 @@ pub struct FailedCopies {
 impl Model for FailedCopies {
     ghost use Rattle.std.specs.Prelude.{◌≡◌, List, length};
     ghost use Rattle.cta_model.specs.declared.asks.Job.{Job};
-    ghost use Rattle.part_values.specs.Room.{Roomed};
+    ghost use Rattle.part_model.specs.Room.{Roomed};
     ghost use Rattle.sum_trees.specs.Forests.{items_in};
     ghost use Rattle.failed_copies.specs.Copies.{copies_of};
 

@@ -3,7 +3,11 @@
 //! `bench/hall` times it.
 #![tactic(auto)]
 
+mod counter;
+mod raising;
 mod run;
+#[cfg(test)]
+mod tests;
 mod words;
 
 use crate::run::{by_hall, by_mutex};

@@ -2,8 +2,9 @@
 ghost use Rattle.std.specs.Prelude.{◌≡◌, IfOk, All};
 ghost use Rattle.turn_hall.specs.Handles.{IsPassOf};
 
+use crate::counter::{Call, Counter, Told};
+use crate::raising::{Job, raise_by_all};
 use crate::words::Load;
-use hall_examples::{Call, Counter, Job, Told, raise_by_all};
 use std::alloc::{AllocError, Global};
 use std::sync::{Mutex, Wait};
 use std::thread;

@@ -8,8 +8,8 @@ use Rattle.cta_model.specs.declared.asks.Job.{Job}
 use Rattle.cta_model.specs.declared.states.Charge.{Charge}
 use Rattle.cta_model.specs.Mounts.{has_job, has_copy}
 use Rattle.cta_model.specs.Recalls.{Recall, subscribed, left_with}
-use Rattle.part_values.specs.JobBook.{TellSame, claim_jobs, give_back_jobs, end_jobs, bear_jobs, charge_jobs, subscribe_files, drop_files, drop_from}
-use Rattle.part_values.specs.JobRows.{JobRows, book_in}
+use Rattle.part_model.specs.JobBook.{TellSame, claim_jobs, give_back_jobs, end_jobs, bear_jobs, charge_jobs, subscribe_files, drop_files, drop_from}
+use Rattle.part_model.specs.JobRows.{JobRows, book_in}
 use Rattle.job_book.specs.declared.book.RecallRow.{RecallRow}
 use Rattle.job_book.specs.Maps.{Maps, CopyKey, JobKey, key_of, is_pair, is_key, is_place, waiting_in, waits_at, charge_at, charges_in, listed, left_out, rows_of, no_charge, places_in, places_or}
 use Rattle.job_book.proofs.Looks.{recall_of, recall_in-map, birth_in-map, claimer_in-map, charges_in-map, has_job-map, has_job-one, has_copy-one, has_number-one, waiting_in-more, waiting_same, waiting_left, charges_in-more, charges_same, key_is}

@@ -5,7 +5,7 @@ use Rattle.std.specs.Map.{lookup, keys_of, values_of}
 use Rattle.std.specs.List.{IsDistinct, AllByRecursion, list_any}
 use Rattle.std.proofs.lemmas.Bool.{eqb-true, eq-eqb}
 use Rattle.cta_model.specs.declared.asks.Job.{Job}
-use Rattle.part_values.specs.JobRows.{JobRows, book_in}
+use Rattle.part_model.specs.JobRows.{JobRows, book_in}
 use Rattle.job_book.specs.Maps.{Maps, JobKey, key_of, job_at, is_key, rows_of}
 use Rattle.job_book.proofs.Looks.{claimer_in-map, key_is}
 

@@ -9,11 +9,11 @@ use Rattle.cta_model.specs.declared.states.Charge.{Charge}
 use Rattle.cta_model.specs.Mounts.{same_job, has_job, has_copy}
 use Rattle.cta_model.specs.History.{has_number}
 use Rattle.cta_model.specs.Recalls.{Recall}
-use Rattle.part_values.specs.declared.jobs.LiveRecall.{LiveRecall}
-use Rattle.part_values.specs.declared.jobs.ClaimedJob.{ClaimedJob}
-use Rattle.part_values.specs.declared.jobs.ChargedJob.{ChargedJob}
-use Rattle.part_values.specs.JobRows.{recall_in, birth_in, claimer_in, charges_or_none}
-use Rattle.part_values.specs.JobRows as book
+use Rattle.part_model.specs.declared.jobs.LiveRecall.{LiveRecall}
+use Rattle.part_model.specs.declared.jobs.ClaimedJob.{ClaimedJob}
+use Rattle.part_model.specs.declared.jobs.ChargedJob.{ChargedJob}
+use Rattle.part_model.specs.JobRows.{recall_in, birth_in, claimer_in, charges_or_none}
+use Rattle.part_model.specs.JobRows as book
 use Rattle.job_book.specs.declared.book.RecallRow.{RecallRow}
 use Rattle.job_book.specs.Maps.{CopyKey, JobKey, key_of, job_at, is_pair, is_key, waiting_in, waits_at, charge_at, charges_in, recall_row, birth_row, claim_row, charge_row, named_row, listed, left_out}
 

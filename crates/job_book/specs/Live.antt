@@ -3,7 +3,7 @@ use Rattle.std.specs.Prelude.{◌==◌, option_map, Bool, if◌then◌else◌}
 use Rattle.cta_model.specs.declared.asks.Job.{Job}
 use Rattle.cta_model.specs.History.{is_number}
 use Rattle.cta_model.specs.Recalls.{Recall}
-use Rattle.part_values.specs.JobBook.{Book}
+use Rattle.part_model.specs.JobBook.{Book}
 
 -- whether a job lives: its birth is that of its file's live recall where its copy is 0, and else that of its copy's live archive job
 abbrev pub lives : Job → Book → Bool

@@ -5,10 +5,10 @@ use Rattle.cta_site.specs.Listed.{rows}
 use Rattle.cta_model.specs.declared.asks.Job.{Job}
 use Rattle.cta_model.specs.declared.asks.Fault.TheVariants as fault
 use Rattle.cta_model.specs.declared.states.Charge.{Charge}
-use Rattle.part_values.specs.declared.jobs.LiveRecall.{LiveRecall}
-use Rattle.part_values.specs.declared.jobs.ClaimedJob.{ClaimedJob}
-use Rattle.part_values.specs.declared.jobs.ChargedJob.{ChargedJob}
-use Rattle.part_values.specs.JobRows.{JobRows}
+use Rattle.part_model.specs.declared.jobs.LiveRecall.{LiveRecall}
+use Rattle.part_model.specs.declared.jobs.ClaimedJob.{ClaimedJob}
+use Rattle.part_model.specs.declared.jobs.ChargedJob.{ChargedJob}
+use Rattle.part_model.specs.JobRows.{JobRows}
 use Rattle.job_book.specs.declared.book.RecallRow.{RecallRow}
 
 -- a copy of a file, as a key

@@ -3,8 +3,8 @@ ghost use Rattle.std.specs.Prelude.{◌≡◌, ◌≢◌, true, false, ℕ, ◌+
 ghost use Rattle.cta_model.specs.declared.asks.Job.{Job};
 ghost use Rattle.cta_model.specs.Recalls.{Recall};
 ghost use Rattle.cta_model.specs.RepackItems.{waiting_for};
-ghost use Rattle.part_values.specs.JobBook.{TellSame};
-ghost use Rattle.part_values.specs.JobRows.{book_in, no_rows};
+ghost use Rattle.part_model.specs.JobBook.{TellSame};
+ghost use Rattle.part_model.specs.JobRows.{book_in, no_rows};
 ghost use Rattle.job_book.specs.Live.{lives};
 
 use crate::claims::Claims;
@@ -33,7 +33,7 @@ pub(crate) struct RecallRow {
 pub(crate) type JobKey = (u32, u32, u8);
 
 /// The book of jobs. Files, births, requests and mounts are named by their numbers. Contracts see what `JobRows` of
-/// `part_values` tells, and for how many more additions there is room.
+/// `part_model` tells, and for how many more additions there is room.
 #[derive(Drop)]
 pub struct JobBook {
     pub(crate) waiting: NumberMap<(u32, u64), u32>,
@@ -51,8 +51,8 @@ pub struct JobBook {
 impl Model for JobBook {
     ghost use Rattle.std.specs.Prelude.{ℕ, ◌≤◌, ◌<◌, ◌+◌, ◌^◌};
     ghost use Rattle.std.specs.HashMap.{spare};
-    ghost use Rattle.part_values.specs.Room.{Roomed};
-    ghost use Rattle.part_values.specs.JobRows.{JobRows};
+    ghost use Rattle.part_model.specs.Room.{Roomed};
+    ghost use Rattle.part_model.specs.JobRows.{JobRows};
     ghost use Rattle.job_book.specs.Maps.{Maps, places_in, rows_of};
 
     ghost Value = { Roomed JobRows };

@@ -1,8 +1,8 @@
 // What changes the book of jobs.
 ghost use Rattle.std.specs.Prelude.{◌≡◌, ◌≢◌, ◌+◌, ◌<◌, ◌≤◌, ◌^◌, [], ◌∷◌, OnOk, length, is_some, is_none, not, ◌&&◌};
-ghost use Rattle.part_values.specs.JobBook as said;
-ghost use Rattle.part_values.specs.JobBook.{TellSame};
-ghost use Rattle.part_values.specs.JobRows.{book_in};
+ghost use Rattle.part_model.specs.JobBook as said;
+ghost use Rattle.part_model.specs.JobBook.{TellSame};
+ghost use Rattle.part_model.specs.JobRows.{book_in};
 
 use crate::book::{JobBook, RecallRow};
 use crate::maps::{make_room, put, take_out};

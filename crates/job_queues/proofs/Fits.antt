@@ -2,9 +2,9 @@
 use Rattle.std.proofs.Common.{◌≡◌, ◌∙◌, ℕ, List, [], ◌∷◌, Some, None, Bool, true, false, refl, ap, subst}
 use Rattle.std.specs.Prelude.{◌&&◌, filter, if◌then◌else◌, nat_le}
 use Rattle.cta_model.specs.declared.asks.Job.{Job}
-use Rattle.part_values.specs.declared.jobs.Line.{Line}
-use Rattle.part_values.specs.Order.{ComesBefore, InOrder, goes_before}
-use Rattle.part_values.specs.Queues.{Queues, lines_in}
+use Rattle.part_model.specs.declared.jobs.Line.{Line}
+use Rattle.part_model.specs.Order.{ComesBefore, InOrder, goes_before}
+use Rattle.part_model.specs.Queues.{Queues, lines_in}
 use Rattle.sum_trees.specs.Order.{GoesFirst, IsSorted, first_of}
 use Rattle.sum_trees.specs.Forests.{items_in}
 use Rattle.job_queues.specs.declared.queued.Queued.{Queued}

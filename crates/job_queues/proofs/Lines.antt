@@ -6,9 +6,9 @@ use Rattle.std.proofs.lemmas.Bool.{eqb-true}
 use Rattle.std.proofs.lemmas.List.Sums.{sum_by-cons}
 use Rattle.cta_model.specs.declared.asks.Job.{Job}
 use Rattle.cta_model.specs.Mounts.{same_job, has_job}
-use Rattle.part_values.specs.declared.jobs.Line.{Line}
-use Rattle.part_values.specs.Order.{goes_before}
-use Rattle.part_values.specs.Queues.{Queues, lines_in, insert_line, added, taken_out}
+use Rattle.part_model.specs.declared.jobs.Line.{Line}
+use Rattle.part_model.specs.Order.{goes_before}
+use Rattle.part_model.specs.Queues.{Queues, lines_in, insert_line, added, taken_out}
 use Rattle.sum_trees.specs.Order.{inserted, unlike, is_like, has_like}
 use Rattle.sum_trees.specs.Forests.{items_in, AreEmpty}
 use Rattle.sum_trees.proofs.Stands.{set_here, set_there}

@@ -2,8 +2,8 @@
 use Rattle.std.specs.Prelude.{ℕ, List, [], ◌∷◌, Option, Some, None, Bool, ◌&&◌, ◌||◌, ◌≡◌, nat_le, filter}
 use Rattle.std.proofs.Common.{arith}
 use Rattle.cta_model.specs.declared.asks.Job.{Job}
-use Rattle.part_values.specs.declared.jobs.Line.{Line}
-use Rattle.part_values.specs.Order.{goes_before}
+use Rattle.part_model.specs.declared.jobs.Line.{Line}
+use Rattle.part_model.specs.Order.{goes_before}
 use Rattle.job_queues.specs.declared.queued.Totals.{Totals}
 use Rattle.job_queues.specs.Laws.{both_totals}
 

@@ -2,7 +2,7 @@
 use Rattle.std.specs.Prelude.{ℕ, zero, suc, ◌≡◌, ◌<◌, ◌≤◌, ◌+◌, Bool, true, false, ◌||◌, min, max, refl}
 use Rattle.std.proofs.Common.{arith}
 use Rattle.cta_model.specs.declared.asks.Job.{Job}
-use Rattle.part_values.specs.Order.{goes_before}
+use Rattle.part_model.specs.Order.{goes_before}
 use Rattle.job_queues.specs.declared.queued.Queued.{Queued}
 use Rattle.job_queues.specs.declared.queued.Totals.{Totals}
 

@@ -1,10 +1,8 @@
 -- Lines of the trees, and what the calls on queues tell.
-use Rattle.std.specs.Prelude.{ℕ, ◌≡◌, ◌==◌, List, [], Bool, true, false, Option, Some, None, length, map, sum_by}
-use Rattle.std.specs.List.{list_any}
+use Rattle.std.specs.Prelude.{ℕ, ◌≡◌, List, [], length, map, sum_by}
 use Rattle.cta_model.specs.declared.asks.Job.{Job}
-use Rattle.cta_model.specs.Mounts.{has_job}
-use Rattle.part_values.specs.declared.jobs.Line.{Line}
-use Rattle.part_values.specs.Queues.{Queues, lines_in}
+use Rattle.part_model.specs.declared.jobs.Line.{Line}
+use Rattle.part_model.specs.Queues.{Queues, lines_in}
 use Rattle.job_queues.specs.declared.queued.Queued.{Queued}
 
 -- the line that waits
@@ -31,12 +29,3 @@ jobs_of ls = map (λ (l : Line). l.job) ls
 pub record AreStarted (keys : ℕ) (queues : Queues) : Type 0 where
   pub many : length queues ≡ keys
   pub empty : (k : ℕ) → lines_in queues k ≡ []
-
--- whether a line's job was born by this entry
-abbrev pub has_birth : ℕ → List Line → Bool
-has_birth birth ls = list_any (λ (l : Line). birth == l.job.birth) ls
-
--- a job of these that was born by the entry, or none where there is none
-abbrev pub IsOfBirth : ℕ → List Line → Option Job → Type 0
-IsOfBirth birth ls None = has_birth birth ls ≡ false
-IsOfBirth birth ls (Some job) = (job.birth ≡ birth) × (has_job job (jobs_of ls) ≡ true)

@@ -1,14 +1,14 @@
 // The lines of a queue whose files fit in some room.
 ghost use Rattle.std.specs.Prelude.{◌≡◌, ◌<◌, length};
-ghost use Rattle.part_values.specs.Order.{InOrder};
-ghost use Rattle.part_values.specs.Queues.{lines_in};
+ghost use Rattle.part_model.specs.Order.{InOrder};
+ghost use Rattle.part_model.specs.Queues.{lines_in};
 ghost use Rattle.job_queues.specs.Fitting.{first_fitting, next_fitting};
 ghost use Rattle.job_queues.specs.Waiting.{jobs_of, line_of};
 
 use crate::queued::Queued;
 use crate::queues::{JobQueues, line_like};
 use cta_model::Job;
-use part_values::Line;
+use part_model::Line;
 
 // The line that waits.
 fn line_of(queued: Queued) -> Line

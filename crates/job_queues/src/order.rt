@@ -1,6 +1,6 @@
 // The order of jobs.
 ghost use Rattle.std.specs.Prelude.{◌≡◌};
-ghost use Rattle.part_values.specs.Order.{goes_before};
+ghost use Rattle.part_model.specs.Order.{goes_before};
 
 use cta_model::Job;
 

@@ -1,13 +1,13 @@
 // Queues of jobs by key.
 ghost use Rattle.std.specs.Prelude.{◌≡◌, ◌+◌, ◌<◌, ◌≤◌, ◌^◌, ℕ, [], ◌∷◌, IfOk, OnOk, false, length};
 ghost use Rattle.cta_model.specs.Mounts.{has_job};
-ghost use Rattle.part_values.specs.Queues.{added, front_job, job_after, line_sums, lines_in, taken_out};
-ghost use Rattle.job_queues.specs.Waiting.{AreStarted, IsOfBirth, bytes_of, jobs_of};
+ghost use Rattle.part_model.specs.Queues.{added, front_job, job_after, line_sums, lines_in, taken_out};
+ghost use Rattle.job_queues.specs.Waiting.{AreStarted, bytes_of, jobs_of};
 
 use crate::queued::{Queued, Totals};
 use cta_model::{Job, Sums};
 use cta_site::NoMemory;
-use part_values::Line;
+use part_model::Line;
 use std::alloc::Global;
 use std::marker::Model;
 use sum_trees::Forest;
@@ -21,8 +21,8 @@ pub struct JobQueues {
 
 impl Model for JobQueues {
     ghost use Rattle.std.specs.Prelude.{ℕ, ◌<◌, ◌^◌};
-    ghost use Rattle.part_values.specs.Room.{Roomed};
-    ghost use Rattle.part_values.specs.Queues.{Queues, lines_in};
+    ghost use Rattle.part_model.specs.Room.{Roomed};
+    ghost use Rattle.part_model.specs.Queues.{Queues, lines_in};
     ghost use Rattle.job_queues.specs.Waiting.{bytes_of, queues_of};
 
     ghost Value = { Roomed Queues };
@@ -148,29 +148,6 @@ impl JobQueues {
         match self.forest.after(key, line_like(job)) {
             None => None,
             Some(next) => Some(next.job),
-        }
-    }
-
-    /// A job of a key that was born by this entry, None exactly where there is none. Its cost is the logarithm of the number
-    /// of the key's lines.
-    pub fn of_birth(&self, key: u32, birth: u32) -> Option<Job>
-        requires key { key < length self.now.value }
-        ensures { IsOfBirth birth (lines_in self.now.value key) result }
-    {
-        let start = Job {
-            birth,
-            file: 0,
-            copy: 0,
-        };
-        match self.forest.from(key, line_like(start)) {
-            None => None,
-            Some(next) => {
-                if next.job.birth == birth {
-                    Some(next.job)
-                } else {
-                    None
-                }
-            }
         }
     }
 }

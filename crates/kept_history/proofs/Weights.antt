@@ -6,7 +6,7 @@ use Rattle.cta_model.specs.declared.entries.Entry.{Entry}
 use Rattle.cta_model.specs.History.{History}
 use Rattle.cta_model.specs.Newest.{history_in}
 use Rattle.cta_model.proofs.Newest.{length-history_in}
-use Rattle.part_values.specs.Room.{Roomed}
+use Rattle.part_model.specs.Room.{Roomed}
 use Rattle.kept_history.specs.Weight.{capped}
 
 pub cap_more : (w v a b : ℕ) → w ≡ capped a → v ≡ capped b → min (w + v) 18446744073709551615 ≡ capped (b + a)

@@ -1,10 +1,11 @@
 // The entries that are kept.
-ghost use Rattle.std.specs.Prelude.{◌≡◌, ◌+◌, ◌<◌, ◌≤◌, ◌^◌, ◌∷◌, [], length, nat_lt, option_copied, option_map, OnOk};
+ghost use Rattle.std.specs.Prelude.{◌≡◌, ◌+◌, ◌<◌, ◌≤◌, ◌^◌, ◌∷◌, [], length, nat_lt, option_copied, option_map, IfOk, OnOk};
 ghost use Rattle.cta_model.specs.Bare.{bare_answer, bare_ask, bare_entry};
 ghost use Rattle.cta_model.specs.History.{entry_of, moment_of, next_number, weight_of};
+ghost use Rattle.cta_model.specs.Legal.{actor_of, new_entry};
 
 use crate::weight::weight_of_entry;
-use cta_model::{Entry, NoMemory, Rows};
+use cta_model::{Actor, Answer, Ask, Entry, NoMemory, Rows, Who};
 use std::alloc::Global;
 use std::marker::Model;
 
@@ -22,7 +23,7 @@ impl Model for KeptHistory {
     ghost use Rattle.std.specs.Prelude.{◌≡◌, ◌+◌, ◌<◌, ◌^◌, length};
     ghost use Rattle.cta_model.specs.History.{History, weight_of};
     ghost use Rattle.cta_model.specs.Newest.{history_in};
-    ghost use Rattle.part_values.specs.Room.{Roomed};
+    ghost use Rattle.part_model.specs.Room.{Roomed};
     ghost use Rattle.kept_history.specs.Weight.{capped};
 
     ghost Value = { Roomed History };
@@ -67,6 +68,34 @@ impl KeptHistory {
         let weight = weight_of_entry(&entry.ask, &entry.answer);
         self.entries.push(entry);
         self.weight = self.weight.saturating_add(weight);
+    }
+
+    /// Adds the entry of an ask that was accepted at this moment, in seconds since 1970, or at the last entry's where that is
+    /// later. Room is left for it. It takes no memory and constant time.
+    pub fn append(&mut self, at: u64, actor: Actor, ask: Ask, answer: Answer)
+        requires room { 0 < self.old.room }
+        requires few { length self.old.value + 2 < 2 ^ 32 }
+        requires by { actor ≡ actor_of self.old.value (bare_ask ask) }
+        ensures { self.new.value ≡ new_entry self.old.value at (bare_ask ask) (bare_answer answer) ∷ self.old.value }
+    {
+        let at = self.moment_of(at);
+        self.push(Entry {
+            at,
+            actor,
+            ask,
+            answer,
+        });
+    }
+
+    /// Copies who asks, and makes room for one more entry. NoMemory gives nothing, and changes no entry. Its cost is that of
+    /// `reserve` and the length of the names.
+    pub fn prepare(&mut self, who: &Who) -> Result<Who, NoMemory>
+        ensures entries { self.new.value ≡ self.old.value }
+        ensures entry_room { OnOk result (0 < self.new.room) }
+        ensures caller { IfOk result (λ caller. caller ≡ who.now) }
+    {
+        self.reserve(1)?;
+        who.copy()
     }
 
     /// The number that the next entry gets, in constant time.

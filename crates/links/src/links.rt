@@ -73,14 +73,9 @@ impl Links {
         self.conns[link as usize].next(alloc)
     }
 
-    /// All that can be given now on a link, at the end of `out`. NoMemory leaves the rest to be given: what was given stands in
-    /// `out`, and the call can be made again. Its cost is that of `next` for each.
-    pub fn next_all(
-        &mut self,
-        alloc: Global,
-        link: u32,
-        out: &mut Vec<Next>,
-    ) -> Result<(), NoMemory>
+    // All that can be given now on a link, at the end of `out`. NoMemory leaves the rest to be given: what was given stands in
+    // `out`, and the call can be made again. Its cost is that of `next` for each.
+    fn next_all(&mut self, alloc: Global, link: u32, out: &mut Vec<Next>) -> Result<(), NoMemory>
         requires { link < 1024 }
         ensures given { (limit : ℕ) (fed : ℕ → List ℕ) (given : ℕ → List Event) → LinksStand self.old limit fed (behind given link (given_by out.old.items))
             → LinksStand self.new limit fed (behind given link (given_by out.new.items))

@@ -3,7 +3,7 @@ use Rattle.std.proofs.Common.{◌≡◌, ◌∙◌, ℕ, zero, suc, ◌+◌, ◌
 use Rattle.std.specs.Prelude.{if◌then◌else◌, ◌==◌, replicate}
 use Rattle.std.proofs.lemmas.Bool.{eqb-true, eq-eqb}
 use Rattle.cta_model.specs.History.{has_number}
-use Rattle.part_values.specs.Mounts.{set_down, set_up}
+use Rattle.part_model.specs.Mounts.{set_down, set_up}
 use Rattle.open_mounts.specs.Table.{places_from}
 
 bool_cases : (t : Bool) → (t ≡ true) ⊎ (t ≡ false)

@@ -10,8 +10,8 @@ use Rattle.std.proofs.lemmas.List.Folds.{list_any-append}
 use Rattle.cta_model.specs.declared.asks.Item.{Item}
 use Rattle.cta_site.specs.Listed.{Listed}
 use Rattle.cta_model.specs.declared.asks.Direction.TheVariants as direction
-use Rattle.part_values.specs.declared.mounts.OpenMount.{OpenMount}
-use Rattle.part_values.specs.Mounts.{has_mount, opened, ended, claimed}
+use Rattle.part_model.specs.declared.mounts.OpenMount.{OpenMount}
+use Rattle.part_model.specs.Mounts.{has_mount, opened, ended, claimed}
 use Rattle.open_mounts.specs.Table.{differ}
 
 -- a row is found where one passes

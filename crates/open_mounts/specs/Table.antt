@@ -1,7 +1,7 @@
 -- The value of the table of open mounts.
 use Rattle.std.specs.Prelude.{ℕ, suc, List, [], ◌∷◌, Bool, true, false, not, ◌&&◌}
-use Rattle.part_values.specs.declared.mounts.OpenMount.{OpenMount}
-use Rattle.part_values.specs.Mounts.{has_mount}
+use Rattle.part_model.specs.declared.mounts.OpenMount.{OpenMount}
+use Rattle.part_model.specs.Mounts.{has_mount}
 
 -- the rows of the open mounts, oldest first; the drives that are down; and how many drives the site has
 pub record MountTable : Type 0 where

@@ -2,14 +2,14 @@
 ghost use Rattle.std.specs.Prelude.{◌≡◌, ℕ, ◌+◌, ◌<◌, ◌≤◌, ◌==◌, [], find, length, is_some, false, IfOk, OnOk, OnErr};
 ghost use Rattle.std.specs.Option.{option_map};
 ghost use Rattle.cta_model.specs.History.{has_number};
-ghost use Rattle.part_values.specs.declared.mounts.OpenMount.{OpenMount};
-ghost use Rattle.part_values.specs.Mounts as said;
+ghost use Rattle.part_model.specs.declared.mounts.OpenMount.{OpenMount};
+ghost use Rattle.part_model.specs.Mounts as said;
 
 use crate::flags::{flag_at, lower, no_flags, raise};
 use crate::rows::{of_drive, of_tape, place_of, put_items, row_of, take_out};
 use cta_model::{Direction, Item};
 use cta_site::{NoMemory, Rows, ValidSite};
-use part_values::OpenMount;
+use part_model::OpenMount;
 use std::alloc::Global;
 use std::marker::Model;
 
@@ -24,7 +24,7 @@ pub struct OpenMounts {
 
 impl Model for OpenMounts {
     ghost use Rattle.std.specs.Prelude.{◌≡◌, ◌-◌, true, length, vec_capacity, vec_len};
-    ghost use Rattle.part_values.specs.Room.{Roomed};
+    ghost use Rattle.part_model.specs.Room.{Roomed};
     ghost use Rattle.open_mounts.specs.Table.{MountTable, places_from, differ};
 
     ghost Value = { Roomed MountTable };

@@ -2,12 +2,12 @@
 ghost use Rattle.std.specs.Prelude.{◌≡◌, ◌==◌, ◌-◌, ◌<◌, ◌≤◌, Some, length, find, slice_set, vec_capacity, vec_len};
 ghost use Rattle.std.specs.List.{position, slice_index_or};
 ghost use Rattle.std.specs.Option.{option_map};
-ghost use Rattle.part_values.specs.declared.mounts.OpenMount.{OpenMount};
-ghost use Rattle.part_values.specs.Mounts as said;
+ghost use Rattle.part_model.specs.declared.mounts.OpenMount.{OpenMount};
+ghost use Rattle.part_model.specs.Mounts as said;
 
 use cta_model::Item;
 use cta_site::Rows;
-use part_values::OpenMount;
+use part_model::OpenMount;
 
 // The place of a mount's row.
 pub(crate) fn place_of(rows: &[OpenMount], mount: u32) -> Option<usize>

@@ -5,9 +5,9 @@ use Rattle.std.proofs.lemmas.Bool.{eq-eqb}
 use Rattle.cta_model.specs.declared.asks.Job.{Job}
 use Rattle.cta_model.specs.declared.states.Sums.{Sums}
 use Rattle.cta_model.specs.Mounts.{has_copy, has_job, same_job}
-use Rattle.part_values.specs.declared.jobs.Line.{Line}
-use Rattle.part_values.specs.Failed.{removed_copies}
-use Rattle.part_values.specs.Queues.{Queues, lines_in, taken_out, line_sums}
+use Rattle.part_model.specs.declared.jobs.Line.{Line}
+use Rattle.part_model.specs.Failed.{removed_copies}
+use Rattle.part_model.specs.Queues.{Queues, lines_in, taken_out, line_sums}
 use Rattle.job_queues.specs.Waiting.{bytes_of, jobs_of}
 
 either_no : (a : Bool) → (a || false) ≡ a

@@ -1,6 +1,6 @@
 //! `parts_bench KIND FILES`: runs each call of each part of the archive over so many files. KIND `time` prints the mean
-//! nanoseconds of a call, and KIND `count` how many calls were made. `parts_bench PART FILES`, where PART is `archive`,
-//! `retrieve`, `tapes`, `book` or `failed`, fills that part alone and prints how many files it took. `bench/parts` times it.
+//! nanoseconds of a call, and KIND `count` how many calls were made. `parts_bench PART FILES`, where PART is `queues`,
+//! `tapes`, `book` or `failed`, fills that part alone and prints how many files it took. `bench/parts` times it.
 #![tactic(auto)]
 
 mod book;
@@ -8,11 +8,10 @@ mod choice;
 mod failed;
 mod mounts;
 mod names;
-mod reads;
+mod queues;
 mod report;
 mod site;
 mod tapes;
-mod waits;
 mod words;
 
 use crate::report::Report;
@@ -28,8 +27,7 @@ fn run_all(rt: &HostRuntime, timed: bool, files: u32, site: &ValidSite) -> io::R
     names::run(rt, report)?;
     tapes::run(rt, report, site)?;
     book::run(rt, report)?;
-    waits::run(rt, report, site)?;
-    reads::run(rt, report, site)?;
+    queues::run(rt, report)?;
     mounts::run(rt, report, site)?;
     choice::run(rt, report)?;
     failed::run(rt, report)
@@ -38,8 +36,7 @@ fn run_all(rt: &HostRuntime, timed: bool, files: u32, site: &ValidSite) -> io::R
 // Fills one part.
 fn fill(alloc: Global, part: Kind, files: u32, site: &ValidSite) -> Option<u32> {
     match part {
-        Kind::Archive => waits::fill(alloc, files, site),
-        Kind::Retrieve => reads::fill(alloc, files, site),
+        Kind::Queues => queues::fill(alloc, files),
         Kind::Tapes => tapes::fill(alloc, files, site),
         Kind::Book => book::fill(alloc, files),
         _ => failed::fill(alloc, files),
@@ -73,8 +70,6 @@ fn run(rt: &HostRuntime, load: Load) -> io::Result<()> {
 fn main(rt: HostRuntime) -> io::Result<()> {
     match read_load(&rt) {
         Some(load) => run(&rt, load),
-        None => {
-            eprintln!(rt; "usage: parts_bench time|count|archive|retrieve|tapes|book|failed FILES")
-        }
+        None => { eprintln!(rt; "usage: parts_bench time|count|queues|tapes|book|failed FILES") }
     }
 }

@@ -2,11 +2,10 @@
 use crate::report::{Report, tell};
 use cta_model::Direction;
 use cta_site::ValidSite;
-use open_mounts::OpenMounts;
-use part_values::OpenMount;
+use open_mounts::{OpenMounts, VoQuota};
+use part_model::OpenMount;
 use std::io;
 use std::time::Instant;
-use vo_quota::VoQuota;
 
 const CALLS: [&str; 7] = [
     "open_mounts.find+reserve+open+end",
@@ -19,9 +18,9 @@ const CALLS: [&str; 7] = [
 ];
 
 const QUOTA_CALLS: [&str; 3] = [
-    "vo_quota.has_room",
-    "vo_quota.count",
-    "vo_quota.open_mount+end_mount",
+    "open_mounts.has_room",
+    "open_mounts.count",
+    "open_mounts.open_mount+end_mount",
 ];
 
 // Opens a mount of a tape on the drive of its number.

@@ -1,13 +1,13 @@
 // The index of names.
 use crate::report::{Report, tell};
 use cta_site::Text;
-use name_index::NameIndex;
+use path_index::PathIndex;
 use std::alloc::{AllocError, Global};
 use std::hash::RandomState;
 use std::io;
 use std::time::Instant;
 
-const CALLS: [&str; 3] = ["name_index.add", "name_index.file", "name_index.remove"];
+const CALLS: [&str; 3] = ["path_index.add", "path_index.file", "path_index.remove"];
 
 // The paths of so many files.
 fn paths_of(alloc: Global, files: u32) -> Result<Vec<String>, AllocError> {
@@ -27,7 +27,7 @@ fn texts_of(alloc: Global, paths: &[String]) -> Result<Vec<Text>, AllocError> {
     Ok(texts)
 }
 
-fn add_all(index: &mut NameIndex, texts: &mut Vec<Text>, files: u32) -> u32 {
+fn add_all(index: &mut PathIndex, texts: &mut Vec<Text>, files: u32) -> u32 {
     for file in 0..files {
         let Some(text) = texts.pop() else {
             return file;
@@ -39,7 +39,7 @@ fn add_all(index: &mut NameIndex, texts: &mut Vec<Text>, files: u32) -> u32 {
     files
 }
 
-fn find_all(index: &NameIndex, paths: &[String]) -> u32 {
+fn find_all(index: &PathIndex, paths: &[String]) -> u32 {
     let mut found = 0u32;
     for path in paths {
         if index.file(path.as_bytes()).is_some() {
@@ -49,7 +49,7 @@ fn find_all(index: &NameIndex, paths: &[String]) -> u32 {
     found
 }
 
-fn remove_all(index: &mut NameIndex, paths: &[String]) -> u32 {
+fn remove_all(index: &mut PathIndex, paths: &[String]) -> u32 {
     let mut found = 0u32;
     for path in paths {
         if index.remove(path.as_bytes()).is_some() {
@@ -60,7 +60,7 @@ fn remove_all(index: &mut NameIndex, paths: &[String]) -> u32 {
 }
 
 fn row(
-    index: &mut NameIndex,
+    index: &mut PathIndex,
     texts: &mut Vec<Text>,
     paths: &[String],
     files: u32,
@@ -76,7 +76,7 @@ fn row(
 fn run_lines(
     rt: &HostRuntime,
     report: Report,
-    index: &mut NameIndex,
+    index: &mut PathIndex,
     texts: &mut Vec<Text>,
     paths: &[String],
 ) -> io::Result<()> {
@@ -92,7 +92,7 @@ fn run_lines(
 fn run_paths(rt: &HostRuntime, report: Report, paths: &[String]) -> io::Result<()> {
     let mut texts = texts_of(rt.alloc(), paths)?;
     let keys = RandomState::new(rt)?;
-    let mut index = NameIndex::new(rt.alloc(), keys);
+    let mut index = PathIndex::new(rt.alloc(), keys);
     run_lines(rt, report, &mut index, &mut texts, paths)
 }
 

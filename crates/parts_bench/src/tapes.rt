@@ -7,19 +7,19 @@ use cta_site::{TapeState, ValidSite};
 use std::alloc::Global;
 use std::io;
 use std::time::Instant;
-use tape_files::TapeFiles;
+use tape_table::TapeTable;
 
 const CALLS: [&str; 10] = [
-    "tape_files.reserve+flushed",
-    "tape_files.place",
-    "tape_files.place_at",
-    "tape_files.is_whole",
-    "tape_files.row",
-    "tape_files.live",
-    "tape_files.next_live",
-    "tape_files.claim+unclaim",
-    "tape_files.set_state",
-    "tape_files.drop_file",
+    "tape_table.reserve+flushed",
+    "tape_table.place",
+    "tape_table.place_at",
+    "tape_table.is_whole",
+    "tape_table.row",
+    "tape_table.live",
+    "tape_table.next_live",
+    "tape_table.claim+unclaim",
+    "tape_table.set_state",
+    "tape_table.drop_file",
 ];
 
 // An item for the first copy of a file.
@@ -40,7 +40,7 @@ fn item(file: u32) -> Item
     }
 }
 
-fn flush(table: &mut TapeFiles, tape: u32, file: u32) -> bool {
+fn flush(table: &mut TapeTable, tape: u32, file: u32) -> bool {
     if table.reserve(1).is_err() {
         return false;
     }
@@ -54,7 +54,7 @@ fn flush(table: &mut TapeFiles, tape: u32, file: u32) -> bool {
     true
 }
 
-fn flush_all(table: &mut TapeFiles, files: u32) -> u32 {
+fn flush_all(table: &mut TapeTable, files: u32) -> u32 {
     for file in 0..files {
         if !flush(table, file % 2, file) {
             return file;
@@ -64,7 +64,7 @@ fn flush_all(table: &mut TapeFiles, files: u32) -> u32 {
 }
 
 // One reader for one file.
-fn reads(table: &TapeFiles, file: u32, at: usize) -> bool {
+fn reads(table: &TapeTable, file: u32, at: usize) -> bool {
     match at {
         1 => table.place(file, 1).is_some(),
         2 => table.place_at(file, 0).is_some(),
@@ -75,7 +75,7 @@ fn reads(table: &TapeFiles, file: u32, at: usize) -> bool {
     }
 }
 
-fn read_all(table: &TapeFiles, files: u32, at: usize) -> u32 {
+fn read_all(table: &TapeTable, files: u32, at: usize) -> u32 {
     let mut calls = 0u32;
     for file in 0..files {
         if reads(table, file, at) {
@@ -85,7 +85,7 @@ fn read_all(table: &TapeFiles, files: u32, at: usize) -> u32 {
     calls
 }
 
-fn claim(table: &mut TapeFiles, tape: u32) -> bool {
+fn claim(table: &mut TapeTable, tape: u32) -> bool {
     if tape as usize >= table.tapes() {
         return false;
     }
@@ -97,7 +97,7 @@ fn claim(table: &mut TapeFiles, tape: u32) -> bool {
     true
 }
 
-fn set(table: &mut TapeFiles, tape: u32) -> bool {
+fn set(table: &mut TapeTable, tape: u32) -> bool {
     if tape as usize >= table.tapes() {
         return false;
     }
@@ -106,7 +106,7 @@ fn set(table: &mut TapeFiles, tape: u32) -> bool {
 }
 
 // One change for one file.
-fn change(table: &mut TapeFiles, file: u32, at: usize) -> bool {
+fn change(table: &mut TapeTable, file: u32, at: usize) -> bool {
     match at {
         7 => claim(table, file % 2),
         8 => set(table, file % 2),
@@ -117,7 +117,7 @@ fn change(table: &mut TapeFiles, file: u32, at: usize) -> bool {
     }
 }
 
-fn change_all(table: &mut TapeFiles, files: u32, at: usize) -> u32 {
+fn change_all(table: &mut TapeTable, files: u32, at: usize) -> u32 {
     for file in 0..files {
         if !change(table, file, at) {
             return file;
@@ -126,7 +126,7 @@ fn change_all(table: &mut TapeFiles, files: u32, at: usize) -> u32 {
     files
 }
 
-fn row(table: &mut TapeFiles, files: u32, at: usize) -> u32 {
+fn row(table: &mut TapeTable, files: u32, at: usize) -> u32 {
     if at == 0 {
         return flush_all(table, files);
     }
@@ -136,7 +136,7 @@ fn row(table: &mut TapeFiles, files: u32, at: usize) -> u32 {
     change_all(table, files, at)
 }
 
-fn run_lines(rt: &HostRuntime, report: Report, table: &mut TapeFiles) -> io::Result<()> {
+fn run_lines(rt: &HostRuntime, report: Report, table: &mut TapeTable) -> io::Result<()> {
     for at in 0..10 {
         let start = Instant::now(rt)?;
         let calls = row(table, report.files, at);
@@ -147,14 +147,14 @@ fn run_lines(rt: &HostRuntime, report: Report, table: &mut TapeFiles) -> io::Res
 
 // Prints the lines of the table.
 pub fn run(rt: &HostRuntime, report: Report, site: &ValidSite) -> io::Result<()> {
-    match TapeFiles::new(rt.alloc(), site) {
+    match TapeTable::new(rt.alloc(), site) {
         Ok(mut table) => run_lines(rt, report, &mut table),
         Err(_) => Ok(()),
     }
 }
 
 // Flushes so many files, with room for all at once.
-fn fill_all(table: &mut TapeFiles, files: u32) -> Option<u32> {
+fn fill_all(table: &mut TapeTable, files: u32) -> Option<u32> {
     if table.reserve(files).is_err() {
         return None;
     }
@@ -163,7 +163,7 @@ fn fill_all(table: &mut TapeFiles, files: u32) -> Option<u32> {
 
 // Fills the table.
 pub fn fill(alloc: Global, files: u32, site: &ValidSite) -> Option<u32> {
-    match TapeFiles::new(alloc, site) {
+    match TapeTable::new(alloc, site) {
         Ok(mut table) => fill_all(&mut table, files),
         Err(_) => None,
     }

@@ -6,8 +6,7 @@ use std::env;
 pub enum Kind {
     Time,
     Count,
-    Archive,
-    Retrieve,
+    Queues,
     Tapes,
     Book,
     Failed,
@@ -24,8 +23,7 @@ fn kind_of(word: &str) -> Option<Kind> {
     match word {
         "time" => Some(Kind::Time),
         "count" => Some(Kind::Count),
-        "archive" => Some(Kind::Archive),
-        "retrieve" => Some(Kind::Retrieve),
+        "queues" => Some(Kind::Queues),
         "tapes" => Some(Kind::Tapes),
         "book" => Some(Kind::Book),
         "failed" => Some(Kind::Failed),

@@ -2,13 +2,13 @@
 #![tactic(auto)]
 
 #[cfg(test)]
-mod archive_queue_tests;
-#[cfg(test)]
 mod disk_buffer_tests;
 #[cfg(test)]
 mod failed_copies_tests;
 #[cfg(test)]
 mod job_book_tests;
+#[cfg(test)]
+mod job_queues_tests;
 #[cfg(test)]
 mod mount_choice_tests;
 #[cfg(test)]
@@ -16,11 +16,7 @@ mod name_index_tests;
 #[cfg(test)]
 mod open_mounts_tests;
 #[cfg(test)]
-mod recall_order_tests;
-#[cfg(test)]
 mod repack_book_tests;
-#[cfg(test)]
-mod retrieve_queue_tests;
 #[cfg(test)]
 mod site;
 #[cfg(test)]

@@ -1,5 +1,5 @@
 use cta_model::{Candidate, Direction};
-use mount_choice::first_of;
+use part_answers::first_of;
 
 fn candidate(direction: Direction, key: u32, priority: u32, birth: u32) -> Candidate {
     Candidate {

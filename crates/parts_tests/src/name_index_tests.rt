@@ -1,17 +1,17 @@
 use cta_site::{NoMemory, Text};
-use name_index::NameIndex;
+use path_index::PathIndex;
 use std::alloc::Global;
 use std::hash::RandomState;
 use std::process::Abort;
 use std::test::Fail;
 
 // Adds a path.
-fn add(index: &mut NameIndex, alloc: Global, path: &str, file: u32) -> Result<(), NoMemory> {
+fn add(index: &mut PathIndex, alloc: Global, path: &str, file: u32) -> Result<(), NoMemory> {
     index.add(Text::of(String::from_str(alloc, path)?), file)
 }
 
 // Which files three paths name.
-fn compare(rt: &impl Abort, index: &NameIndex, wanted: [Option<u32>; 3]) {
+fn compare(rt: &impl Abort, index: &PathIndex, wanted: [Option<u32>; 3]) {
     let paths: [&[u8]; 3] = [b"/a/b", b"/a/bc", b"/a"];
     for at in 0..3 {
         assert_eq!(rt; index.file(paths[at]), wanted[at]);
@@ -19,7 +19,7 @@ fn compare(rt: &impl Abort, index: &NameIndex, wanted: [Option<u32>; 3]) {
 }
 
 // Paths name files, other files, and none.
-fn play(rt: &impl Abort, alloc: Global, index: &mut NameIndex) -> Result<(), NoMemory> {
+fn play(rt: &impl Abort, alloc: Global, index: &mut PathIndex) -> Result<(), NoMemory> {
     compare(rt, index, [None, None, None]);
     add(index, alloc, "/a/b", 1)?;
     add(index, alloc, "/a/bc", 2)?;
@@ -34,7 +34,7 @@ fn play(rt: &impl Abort, alloc: Global, index: &mut NameIndex) -> Result<(), NoM
 
 #[test]
 fn paths_name_files(rt: HostRuntime) -> Result<(), Fail> {
-    let mut index = NameIndex::new(rt.alloc(), RandomState::new(&rt)?);
+    let mut index = PathIndex::new(rt.alloc(), RandomState::new(&rt)?);
     play(&rt, rt.alloc(), &mut index)?;
     Ok(())
 }

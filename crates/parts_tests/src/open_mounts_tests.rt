@@ -2,7 +2,7 @@ use crate::site::valid_site;
 use cta_model::{Direction, Item, Job, Sum256};
 use cta_site::{NoMemory, Rows, SiteError};
 use open_mounts::OpenMounts;
-use part_values::OpenMount;
+use part_model::OpenMount;
 use std::alloc::Global;
 use std::process::Abort;
 use std::test::Fail;

@@ -1,9 +1,9 @@
 ghost use Rattle.std.specs.Prelude.{◌≡◌, true};
-ghost use Rattle.stage_book.specs.Requested.{AreApart};
+ghost use Rattle.stage_book.specs.Requested.{AreApart, ArePathsApart};
 
 use cta_model::{FileState, StageFile, StageInfo};
 use cta_site::{NoMemory, Rows, Text};
-use part_values::FileEnd;
+use part_model::FileEnd;
 use stage_book::StageBook;
 use std::alloc::Global;
 use std::hash::RandomState;
@@ -44,10 +44,26 @@ fn are_apart(files: &Rows<StageFile>) -> bool
     }
 }
 
+// Whether no path is named twice, of three.
+fn have_own_paths(files: &Rows<StageFile>) -> bool
+    ensures { result ≡ true → ArePathsApart files.now.items }
+{
+    match files.as_slice() {
+        [a, b, c] => {
+            if a.path.is(b.path.as_bytes()) || a.path.is(c.path.as_bytes()) {
+                return false;
+            }
+            !b.path.is(c.path.as_bytes())
+        }
+        _ => false,
+    }
+}
+
 // Adds a request.
 fn add(rt: &impl Abort, alloc: Global, book: &mut StageBook) -> Result<(), NoMemory> {
     let files = files(alloc)?;
     assert!(rt; are_apart(&files));
+    assert!(rt; have_own_paths(&files));
     book.add(4, 100, files)
 }
 

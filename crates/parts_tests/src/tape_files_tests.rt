@@ -6,12 +6,12 @@ use cta_site::{NoMemory, SiteError, TapeState};
 use std::alloc::Global;
 use std::process::Abort;
 use std::test::Fail;
-use tape_files::TapeFiles;
+use tape_table::TapeTable;
 
 // The tapes of the small site, with no file.
-fn no_files(alloc: Global) -> Result<TapeFiles, SiteError> {
+fn no_files(alloc: Global) -> Result<TapeTable, SiteError> {
     let site = valid_site(alloc)?;
-    let files = TapeFiles::new(alloc, &site);
+    let files = TapeTable::new(alloc, &site);
     drop(site);
     Ok(files?)
 }
@@ -35,7 +35,7 @@ fn item(copy: u8) -> Item
 }
 
 // Flushes a copy of the file 7 to a tape.
-fn flush(rt: &impl Abort, table: &mut TapeFiles, tape: u32, copy: u8, fate: Fate, fseq: u32) {
+fn flush(rt: &impl Abort, table: &mut TapeTable, tape: u32, copy: u8, fate: Fate, fseq: u32) {
     assert!(rt; (tape as usize) < table.tapes() && table.room() > 0);
     assert!(rt; table.row(tape).next == fseq && fseq < 9);
     assert!(rt; copy > 0 && copy < 5);
@@ -43,27 +43,27 @@ fn flush(rt: &impl Abort, table: &mut TapeFiles, tape: u32, copy: u8, fate: Fate
 }
 
 // On which tape the first source of the file 7 is, and how many copies are on the first tape.
-fn compare(rt: &impl Abort, table: &TapeFiles, source: Option<u32>, live: u32) {
+fn compare(rt: &impl Abort, table: &TapeTable, source: Option<u32>, live: u32) {
     assert_eq!(rt; table.place_at(7, 0).map(|place| place.tape), source);
     assert_eq!(rt; table.live(0), live);
 }
 
 // A walk along the first tape from an fSeq: the copy and the fSeq that are found.
-fn walk(table: &TapeFiles, fseq: u32) -> Option<(u8, u32)> {
+fn walk(table: &TapeTable, fseq: u32) -> Option<(u8, u32)> {
     table
         .next_live(0, fseq)
         .map(|next| (next.copy, next.place.fseq))
 }
 
 // Changes a state.
-fn set(rt: &impl Abort, table: &mut TapeFiles, tape: u32, state: TapeState) {
+fn set(rt: &impl Abort, table: &mut TapeTable, tape: u32, state: TapeState) {
     assert!(rt; (tape as usize) < table.tapes());
     table.set_state(tape, state);
     assert_eq!(rt; table.row(tape).state, state);
 }
 
 // Bytes are claimed and given up, and the tape is written anew.
-fn claim(rt: &impl Abort, table: &mut TapeFiles) {
+fn claim(rt: &impl Abort, table: &mut TapeTable) {
     assert!(rt; table.tapes() == 2 && table.row(0).used == 0);
     table.claim(0, 9);
     table.unclaim(0, 4);
@@ -76,7 +76,7 @@ fn claim(rt: &impl Abort, table: &mut TapeFiles) {
 }
 
 // Three copies, of which the third is flushed late at first, and then twice.
-fn fill(rt: &impl Abort, table: &mut TapeFiles) {
+fn fill(rt: &impl Abort, table: &mut TapeTable) {
     flush(rt, table, 0, 1, Fate::Done, 1);
     flush(rt, table, 1, 2, Fate::Done, 1);
     flush(rt, table, 0, 3, Fate::Stale, 2);
@@ -85,7 +85,7 @@ fn fill(rt: &impl Abort, table: &mut TapeFiles) {
 }
 
 // The third copy moves away from the first tape.
-fn walk_all(rt: &impl Abort, table: &mut TapeFiles) {
+fn walk_all(rt: &impl Abort, table: &mut TapeTable) {
     let walked = [walk(table, 0), walk(table, 2), walk(table, 4)];
     assert_eq!(rt; walked, [Some((1, 1)), Some((3, 3)), None]);
     compare(rt, table, Some(0), 2);
@@ -94,7 +94,7 @@ fn walk_all(rt: &impl Abort, table: &mut TapeFiles) {
 }
 
 // Sources by the states of the tapes.
-fn read_all(rt: &impl Abort, table: &mut TapeFiles) {
+fn read_all(rt: &impl Abort, table: &mut TapeTable) {
     set(rt, table, 0, TapeState::Disabled);
     compare(rt, table, Some(1), 1);
     set(rt, table, 1, TapeState::Broken);
@@ -103,7 +103,7 @@ fn read_all(rt: &impl Abort, table: &mut TapeFiles) {
 }
 
 // Each call once.
-fn play(rt: &impl Abort, table: &mut TapeFiles) -> Result<(), NoMemory> {
+fn play(rt: &impl Abort, table: &mut TapeTable) -> Result<(), NoMemory> {
     table.reserve(4)?;
     fill(rt, table);
     walk_all(rt, table);

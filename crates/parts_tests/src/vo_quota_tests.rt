@@ -1,10 +1,10 @@
 use crate::site::valid_site;
 use cta_model::Direction;
 use cta_site::{NoMemory, ValidSite};
+use open_mounts::VoQuota;
 use std::alloc::Global;
 use std::process::Abort;
 use std::test::Fail;
-use vo_quota::VoQuota;
 
 // What is open to the second VO, and what to the others.
 fn compare(rt: &impl Abort, quota: &VoQuota, site: &ValidSite, write: bool, read: bool) {

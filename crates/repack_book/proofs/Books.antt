@@ -10,11 +10,11 @@ use Rattle.cta_model.specs.declared.states.RepackCopy.{RepackCopy}
 use Rattle.cta_model.specs.History.{has_number}
 use Rattle.cta_model.specs.Mounts.{has_copy}
 use Rattle.cta_model.specs.Repacks.{Repack, is_live_item, is_live_on}
-use Rattle.part_values.specs.Repacks.{Repacks, RepacksAgree, add_repack, has_item_by, is_live_in, is_writing, reading_copies, repack_in, set_item, set_state, writers_in}
+use Rattle.part_model.specs.Repacks.{Repacks, RepacksAgree, add_repack, has_item_by, is_live_in, is_writing, reading_copies, repack_in, set_item, set_state, writers_in}
 use Rattle.repack_book.specs.declared.items.LiveItem.{LiveItem}
 use Rattle.repack_book.specs.declared.holders.Holder.{Holder}
 use Rattle.repack_book.specs.Order.{is_item, has_item, is_holder, has_holder}
-use Rattle.repack_book.specs.Kept.{Kept, KeptRepack, NamesAgree, RepackNames, fresh_repack, kept_in, names_in, names_of, repacks_of, set_in, tape_of}
+use Rattle.repack_book.specs.NamedRepacks.{NamedRepacks, KeptRepack, NamesAgree, RepackNames, fresh_repack, kept_in, names_in, names_of, repacks_of, set_in, tape_of}
 use Rattle.repack_book.specs.Live.{AreIndexed, has_live, has_state, holds_by, holds_on}
 use Rattle.repack_book.specs.Walks.{IsFirstFrom}
 use Rattle.repack_book.proofs.Rows.{flip, and_left, and_right}
@@ -26,7 +26,7 @@ clash e f = cc
 abbrev pub repack_of : KeptRepack → Repack
 repack_of k = k.repack
 
-pub repack_is : (v : Kept) (q : ℕ) → repack_in (repacks_of v) q ≡ option_map repack_of (kept_in v q)
+pub repack_is : (v : NamedRepacks) (q : ℕ) → repack_in (repacks_of v) q ≡ option_map repack_of (kept_in v q)
 repack_is [] q = refl
 repack_is (x ∷ xs) q = ap (λ (b : Bool). if b then Some x.1.repack else repack_in (repacks_of xs) q) (flip x.0 q) ∙ by (q == x.0) (repack_is xs q)
   where
@@ -36,24 +36,24 @@ repack_is (x ∷ xs) q = ap (λ (b : Bool). if b then Some x.1.repack else repac
 
 -- ---- one repack more
 
-pub add_agrees : (v w : Kept) (id tape : ℕ) (jobs : List Job) (k : KeptRepack) → k.repack ≡ fresh_repack tape jobs → ((q : ℕ) → kept_in w q ≡ (if id == q then Some k else kept_in v q)) → RepacksAgree (repacks_of w) (add_repack id tape jobs (repacks_of v))
+pub add_agrees : (v w : NamedRepacks) (id tape : ℕ) (jobs : List Job) (k : KeptRepack) → k.repack ≡ fresh_repack tape jobs → ((q : ℕ) → kept_in w q ≡ (if id == q then Some k else kept_in v q)) → RepacksAgree (repacks_of w) (add_repack id tape jobs (repacks_of v))
 add_agrees v w id tape jobs k is each q = repack_is w q ∙ ap (option_map repack_of) (each q) ∙ by (id == q)
   where
     by : (b : Bool) → option_map repack_of (if b then Some k else kept_in v q) ≡ (if b then Some (fresh_repack tape jobs) else repack_in (repacks_of v) q)
     by true = ap (λ (r : Repack). Some r) is
     by false = sym (repack_is v q)
 
-pub add_names : (v w : Kept) (id : ℕ) (k : KeptRepack) (n : RepackNames) → names_of k ≡ n → ((q : ℕ) → kept_in w q ≡ (if id == q then Some k else kept_in v q)) → (q : ℕ) → names_in w q ≡ (if id == q then Some n else names_in v q)
+pub add_names : (v w : NamedRepacks) (id : ℕ) (k : KeptRepack) (n : RepackNames) → names_of k ≡ n → ((q : ℕ) → kept_in w q ≡ (if id == q then Some k else kept_in v q)) → (q : ℕ) → names_in w q ≡ (if id == q then Some n else names_in v q)
 add_names v w id k n is each q = ap (option_map names_of) (each q) ∙ by (id == q)
   where
     by : (b : Bool) → option_map names_of (if b then Some k else kept_in v q) ≡ (if b then Some n else names_in v q)
     by true = ap (λ (m : RepackNames). Some m) is
     by false = refl
 
-pub same_agrees : (v w : Kept) → ((q : ℕ) → kept_in w q ≡ kept_in v q) → RepacksAgree (repacks_of w) (repacks_of v)
+pub same_agrees : (v w : NamedRepacks) → ((q : ℕ) → kept_in w q ≡ kept_in v q) → RepacksAgree (repacks_of w) (repacks_of v)
 same_agrees v w each q = repack_is w q ∙ ap (option_map repack_of) (each q) ∙ sym (repack_is v q)
 
-pub same_names : (v w : Kept) → ((q : ℕ) → kept_in w q ≡ kept_in v q) → NamesAgree w v
+pub same_names : (v w : NamedRepacks) → ((q : ℕ) → kept_in w q ≡ kept_in v q) → NamesAgree w v
 same_names v w each q = ap (option_map names_of) (each q)
 
 -- ---- an item that is set
@@ -77,7 +77,7 @@ set_state_is id f c s (x ∷ xs) q = by (x.0 == id) refl (x.0 == q) refl (set_st
     by false ea true eb ih = (let other : (id == q) ≡ false = flip id q ∙ ap (λ (n : ℕ). n == id) (sym (eqb-true x.0 q eb)) ∙ ea in rw (other, eb) refl)
     by false ea false eb ih = rw eb ih
 
-pub set_agrees : (v w : Kept) (id f c : ℕ) (s : ItemState) → ((q : ℕ) → kept_in w q ≡ (if id == q then option_map (set_in f c s) (kept_in v q) else kept_in v q)) → RepacksAgree (repacks_of w) (set_state id f c s (repacks_of v))
+pub set_agrees : (v w : NamedRepacks) (id f c : ℕ) (s : ItemState) → ((q : ℕ) → kept_in w q ≡ (if id == q then option_map (set_in f c s) (kept_in v q) else kept_in v q)) → RepacksAgree (repacks_of w) (set_state id f c s (repacks_of v))
 set_agrees v w id f c s each q = repack_is w q ∙ ap (option_map repack_of) (each q) ∙ by (id == q) (kept_in v q) ∙ ap (λ (o : Option Repack). if id == q then option_map (turned f c s) o else o) (sym (repack_is v q)) ∙ sym (set_state_is id f c s (repacks_of v) q)
   where
     by : (b : Bool) (o : Option KeptRepack) → option_map repack_of (if b then option_map (set_in f c s) o else o) ≡ (if b then option_map (turned f c s) (option_map repack_of o) else option_map repack_of o)
@@ -85,7 +85,7 @@ set_agrees v w id f c s each q = repack_is w q ∙ ap (option_map repack_of) (ea
     by true (Some k) = refl
     by false o = refl
 
-pub set_names : (v w : Kept) (id f c : ℕ) (s : ItemState) → ((q : ℕ) → kept_in w q ≡ (if id == q then option_map (set_in f c s) (kept_in v q) else kept_in v q)) → NamesAgree w v
+pub set_names : (v w : NamedRepacks) (id f c : ℕ) (s : ItemState) → ((q : ℕ) → kept_in w q ≡ (if id == q then option_map (set_in f c s) (kept_in v q) else kept_in v q)) → NamesAgree w v
 set_names v w id f c s each q = ap (option_map names_of) (each q) ∙ by (id == q) (kept_in v q)
   where
     by : (b : Bool) (o : Option KeptRepack) → option_map names_of (if b then option_map (set_in f c s) o else o) ≡ option_map names_of o
@@ -145,13 +145,13 @@ live_ends g k f c s e (i ∷ is) =
 
 -- ---- what is kept of live items
 
-pub indexed_same : (v w : Kept) (items : List LiveItem) (holders : List Holder) → ((q : ℕ) → kept_in w q ≡ kept_in v q) → AreIndexed v items holders → AreIndexed w items holders
+pub indexed_same : (v w : NamedRepacks) (items : List LiveItem) (holders : List Holder) → ((q : ℕ) → kept_in w q ≡ kept_in v q) → AreIndexed v items holders → AreIndexed w items holders
 indexed_same v w items holders each x = record {
   on_tape = λ t r f c. x.on_tape t r f c ∙ ap (holds_on t f c) (sym (each r));
   of_copy = λ f c r. x.of_copy f c r ∙ ap (holds_by f c) (sym (each r));
 }
 
-pub indexed_stays : (v w : Kept) (items : List LiveItem) (holders : List Holder) (id f c : ℕ) (s : ItemState) → is_live_item s ≡ true → ((q : ℕ) → kept_in w q ≡ (if id == q then option_map (set_in f c s) (kept_in v q) else kept_in v q)) → AreIndexed v items holders → AreIndexed w items holders
+pub indexed_stays : (v w : NamedRepacks) (items : List LiveItem) (holders : List Holder) (id f c : ℕ) (s : ItemState) → is_live_item s ≡ true → ((q : ℕ) → kept_in w q ≡ (if id == q then option_map (set_in f c s) (kept_in v q) else kept_in v q)) → AreIndexed v items holders → AreIndexed w items holders
 indexed_stays v w items holders id f c s e each x = record {
   on_tape = λ t r g k. x.on_tape t r g k ∙ sym (ap (holds_on t g k) (each r) ∙ on (id == r) t g k (kept_in v r));
   of_copy = λ g k r. x.of_copy g k r ∙ sym (ap (holds_by g k) (each r) ∙ by (id == r) g k (kept_in v r));
@@ -167,7 +167,7 @@ indexed_stays v w items holders id f c s e each x = record {
     by true g k (Some r) = live_stays g k f c s e r.repack.items
     by false g k o = refl
 
-pub indexed_ends : (v w : Kept) (items items' : List LiveItem) (holders holders' : List Holder) (id tape f c : ℕ) (s : ItemState) → is_live_item s ≡ false → Some tape ≡ option_map tape_of (kept_in v id)
+pub indexed_ends : (v w : NamedRepacks) (items items' : List LiveItem) (holders holders' : List Holder) (id tape f c : ℕ) (s : ItemState) → is_live_item s ≡ false → Some tape ≡ option_map tape_of (kept_in v id)
     → ((q : ℕ) → kept_in w q ≡ (if id == q then option_map (set_in f c s) (kept_in v q) else kept_in v q))
     → ((t r g k : ℕ) → has_item items' t r g k ≡ (not (is_item t r g k (record { tape = tape; repack = id; file = f; copy = c })) && has_item items t r g k))
     → ((g k r : ℕ) → has_holder holders' g k r ≡ (not (is_holder g k r (record { file = f; copy = c; repack = id })) && has_holder holders g k r))
@@ -224,7 +224,7 @@ fresh_live f c tape (j ∷ js) = (λ i. yes (j.file == f && j.copy == c) i || fr
     yes true = refl
     yes false = refl
 
-pub indexed_added : (v w : Kept) (items items' : List LiveItem) (holders holders' : List Holder) (id tape : ℕ) (jobs : List Job) (kept : KeptRepack) → kept.repack ≡ fresh_repack tape jobs → kept_in v id ≡ None
+pub indexed_added : (v w : NamedRepacks) (items items' : List LiveItem) (holders holders' : List Holder) (id tape : ℕ) (jobs : List Job) (kept : KeptRepack) → kept.repack ≡ fresh_repack tape jobs → kept_in v id ≡ None
     → ((q : ℕ) → kept_in w q ≡ (if id == q then Some kept else kept_in v q))
     → ((t r g k : ℕ) → has_item items' t r g k ≡ (((t == tape && r == id) && has_copy g k jobs) || has_item items t r g k))
     → ((g k r : ℕ) → has_holder holders' g k r ≡ ((r == id && has_copy g k jobs) || has_holder holders g k r))
@@ -410,7 +410,7 @@ same_bool true false f g = (let k : false ≡ true = f refl in absurd (cc))
 same_bool false true f g = (let k : false ≡ true = g refl in absurd (cc))
 same_bool false false f g = refl
 
-pub live_tells : (v : Kept) (items : List LiveItem) (holders : List Holder) (t : ℕ) → AreIndexed v items holders → list_any (λ (x : LiveItem). x.tape == t) items ≡ is_live_in (repacks_of v) t
+pub live_tells : (v : NamedRepacks) (items : List LiveItem) (holders : List Holder) (t : ℕ) → AreIndexed v items holders → list_any (λ (x : LiveItem). x.tape == t) items ≡ is_live_in (repacks_of v) t
 live_tells v items holders t x = same_bool _ _ forth back
   where
     test : ℕ → Bool
@@ -489,7 +489,7 @@ writing_lives f c (i ∷ is) h = by (i.file == f && i.copy == c) i.state h (λ k
     by true item.Gone k ih = ih k
     by false s k ih = ih k
 
-pub writer_holds : (v : Kept) (items : List LiveItem) (holders : List Holder) (f c r : ℕ) → AreIndexed v items holders → has_number r (writers_in (repacks_of v) f c) ≡ true → has_holder holders f c r ≡ true
+pub writer_holds : (v : NamedRepacks) (items : List LiveItem) (holders : List Holder) (f c r : ℕ) → AreIndexed v items holders → has_number r (writers_in (repacks_of v) f c) ≡ true → has_holder holders f c r ≡ true
 writer_holds v items holders f c r x h = x.of_copy f c r ∙ by (kept_in v r) (sym (writer_is (repacks_of v) f c r ∙ ap (writes f c) (repack_is v r)) ∙ h)
   where
     by : (o : Option KeptRepack) → writes f c (option_map repack_of o) ≡ true → holds_by f c o ≡ true
@@ -499,7 +499,7 @@ writer_holds v items holders f c r x h = x.of_copy f c r ∙ by (kept_in v r) (s
 -- ---- one repack
 
 -- the live items of a kept repack, on its tape, are its copies that are live
-pub items_of_row : (v : Kept) (items : List LiveItem) (holders : List Holder) (id f : ℕ) (k : KeptRepack) → AreIndexed v items holders → kept_in v id ≡ Some k → (c : ℕ) → has_item items k.repack.tape id f c ≡ has_live f c k.repack.items
+pub items_of_row : (v : NamedRepacks) (items : List LiveItem) (holders : List Holder) (id f : ℕ) (k : KeptRepack) → AreIndexed v items holders → kept_in v id ≡ Some k → (c : ℕ) → has_item items k.repack.tape id f c ≡ has_live f c k.repack.items
 items_of_row v items holders id f k x here c = x.on_tape k.repack.tape id f c ∙ ap (holds_on k.repack.tape f c) here ∙ ap (λ b. b && has_live f c k.repack.items) (eq-eqb k.repack.tape k.repack.tape refl)
 
 pub some_of : (o : Option KeptRepack) → is_some (option_map repack_of o) ≡ is_some o
@@ -509,10 +509,10 @@ some_of (Some k) = refl
 pub nothing_read : (f from : ℕ) → IsFirstFrom (λ k. has_number k (reading_copies f None)) from None
 nothing_read f from n h = absurd (clash h refl)
 
-pub indexed_at : (v w : Kept) (items items' : List LiveItem) (holders holders' : List Holder) → ((q : ℕ) → kept_in w q ≡ kept_in v q) → items' ≡ items → holders' ≡ holders → AreIndexed v items holders → AreIndexed w items' holders'
+pub indexed_at : (v w : NamedRepacks) (items items' : List LiveItem) (holders holders' : List Holder) → ((q : ℕ) → kept_in w q ≡ kept_in v q) → items' ≡ items → holders' ≡ holders → AreIndexed v items holders → AreIndexed w items' holders'
 indexed_at v w items items' holders holders' each i h x = subst (λ (hs : List Holder). AreIndexed w items' hs) (sym h) (subst (λ (is : List LiveItem). AreIndexed w is holders) (sym i) (indexed_same v w items holders each x))
 
-pub new_kept : (v : Kept) (id : ℕ) → repack_in (repacks_of v) id ≡ None → kept_in v id ≡ None
+pub new_kept : (v : NamedRepacks) (id : ℕ) → repack_in (repacks_of v) id ≡ None → kept_in v id ≡ None
 new_kept v id e = by (kept_in v id) (sym (repack_is v id) ∙ e)
   where
     by : (o : Option KeptRepack) → option_map repack_of o ≡ None → o ≡ None

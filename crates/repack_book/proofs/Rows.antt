@@ -10,10 +10,10 @@ use Rattle.cta_model.specs.declared.states.RepackCopy.{RepackCopy}
 use Rattle.cta_model.specs.History.{has_number}
 use Rattle.cta_model.specs.Mounts.{has_copy}
 use Rattle.cta_model.specs.Repacks.{is_live_item}
-use Rattle.part_values.specs.Repacks.{is_reading, set_item}
+use Rattle.part_model.specs.Repacks.{is_reading, set_item}
 use Rattle.repack_book.specs.States.{States, state_at, item_at, items_of, turned_if}
 use Rattle.repack_book.specs.Live.{has_live, has_state}
-use Rattle.repack_book.specs.Kept.{Kept, KeptRepack, fresh_repack, kept_in}
+use Rattle.repack_book.specs.NamedRepacks.{NamedRepacks, KeptRepack, fresh_repack, kept_in}
 
 pub flip : (x y : ℕ) → (x == y) ≡ (y == x)
 flip x y = grind arith
@@ -204,7 +204,7 @@ low_more jobs n d h here low f c e = by ((get_or jobs n d).file == f) ((get_or j
     by true false k g = low f c g
     by false b k g = low f c g
 
-pub write_row : (v : Kept) (id q : ℕ) (g : KeptRepack → KeptRepack) (old new : KeptRepack) → kept_in v id ≡ Some old → new ≡ g old → (if id == q then Some new else kept_in v q) ≡ (if id == q then option_map g (kept_in v q) else kept_in v q)
+pub write_row : (v : NamedRepacks) (id q : ℕ) (g : KeptRepack → KeptRepack) (old new : KeptRepack) → kept_in v id ≡ Some old → new ≡ g old → (if id == q then Some new else kept_in v q) ≡ (if id == q then option_map g (kept_in v q) else kept_in v q)
 write_row v id q g old new here is = by (id == q) refl
   where
     by : (b : Bool) → (id == q) ≡ b → (if b then Some new else kept_in v q) ≡ (if b then option_map g (kept_in v q) else kept_in v q)

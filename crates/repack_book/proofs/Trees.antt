@@ -5,7 +5,7 @@ use Rattle.std.specs.List.{list_any}
 use Rattle.std.proofs.Math.ListN.{set}
 use Rattle.std.proofs.lemmas.Bool.{eqb-true, eq-eqb}
 use Rattle.cta_model.specs.Mounts.{same_job}
-use Rattle.part_values.specs.Order.{goes_before}
+use Rattle.part_model.specs.Order.{goes_before}
 use Rattle.sum_trees.specs.Order.{GoesFirst, IsSorted, inserted, unlike, is_like, has_like, first_of, first_after, first_from}
 use Rattle.sum_trees.specs.Forests.{items_in}
 use Rattle.sum_trees.proofs.Stands.{set_here}

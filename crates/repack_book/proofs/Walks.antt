@@ -10,7 +10,7 @@ use Rattle.cta_model.specs.declared.states.RepackCopy.{RepackCopy}
 use Rattle.cta_model.specs.History.{has_number}
 use Rattle.cta_model.specs.Repacks.{Repack, is_live_item}
 use Rattle.job_queues.specs.Laws.{way, Below, Level, Above}
-use Rattle.part_values.specs.Repacks.{is_reading, reading_copies}
+use Rattle.part_model.specs.Repacks.{is_reading, reading_copies}
 use Rattle.repack_book.specs.Live.{has_live, has_state}
 use Rattle.repack_book.specs.Walks.{IsFirstFrom}
 use Rattle.repack_book.proofs.Rows.{of_some_copy, reading_is, some_copy}

@@ -2,7 +2,7 @@
 use Rattle.std.specs.Prelude.{ℕ, ◌≡◌, ◌<◌, ◌≤◌, ◌==◌, Bool, true, false, ◌||◌, ◌&&◌, nat_lt, refl}
 use Rattle.std.proofs.Common.{arith, ◌∙◌, sym}
 use Rattle.job_queues.specs.Laws.{way, Below, Level, Above, before_one_way, before_splits}
-use Rattle.part_values.specs.Order.{goes_before}
+use Rattle.part_model.specs.Order.{goes_before}
 use Rattle.repack_book.specs.declared.items.LiveItem.{LiveItem}
 use Rattle.repack_book.specs.Order.{item_before, item_numbers}
 

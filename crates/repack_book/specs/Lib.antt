@@ -1,4 +1,4 @@
-pub mod Kept
+pub mod NamedRepacks
 pub mod Walks
 pub mod Reports
 pub mod States

@@ -4,7 +4,7 @@ use Rattle.std.specs.List.{list_any}
 use Rattle.cta_model.specs.declared.reports.ItemState.{ItemState}
 use Rattle.cta_model.specs.declared.states.RepackCopy.{RepackCopy}
 use Rattle.cta_model.specs.Repacks.{is_live_item}
-use Rattle.repack_book.specs.Kept.{Kept, KeptRepack, kept_in}
+use Rattle.repack_book.specs.NamedRepacks.{NamedRepacks, KeptRepack, kept_in}
 use Rattle.repack_book.specs.declared.items.LiveItem.{LiveItem}
 use Rattle.repack_book.specs.declared.holders.Holder.{Holder}
 use Rattle.repack_book.specs.Order.{has_item, has_holder}
@@ -28,6 +28,6 @@ holds_on t f c None = false
 holds_on t f c (Some k) = t == k.repack.tape && has_live f c k.repack.items
 
 -- what is kept of live items, by tape and by copy, is what the kept repacks have
-pub record AreIndexed (v : Kept) (items : List LiveItem) (holders : List Holder) : Type 0 where
+pub record AreIndexed (v : NamedRepacks) (items : List LiveItem) (holders : List Holder) : Type 0 where
   pub on_tape : (t r f c : ℕ) → has_item items t r f c ≡ holds_on t f c (kept_in v r)
   pub of_copy : (f c r : ℕ) → has_holder holders f c r ≡ holds_by f c (kept_in v r)

@@ -2,7 +2,7 @@
 use Rattle.std.specs.Prelude.{ℕ, Bool, List, ◌==◌, ◌&&◌, ◌||◌, nat_lt}
 use Rattle.std.specs.List.{list_any}
 use Rattle.cta_model.specs.declared.asks.Job.{Job}
-use Rattle.part_values.specs.Order.{goes_before}
+use Rattle.part_model.specs.Order.{goes_before}
 use Rattle.repack_book.specs.declared.items.LiveItem.{LiveItem}
 use Rattle.repack_book.specs.declared.holders.Holder.{Holder}
 

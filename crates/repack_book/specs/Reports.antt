@@ -5,7 +5,7 @@ use Rattle.cta_model.specs.declared.reports.RepackInfo.{RepackInfo}
 use Rattle.cta_model.specs.declared.reports.RepackItem.{RepackItem}
 use Rattle.cta_model.specs.declared.states.RepackCopy.{RepackCopy}
 use Rattle.cta_model.specs.Bare.{bare_rows}
-use Rattle.repack_book.specs.Kept.{Kept, KeptRepack, kept_in}
+use Rattle.repack_book.specs.NamedRepacks.{NamedRepacks, KeptRepack, kept_in}
 
 -- what is told of an item whose file has this path
 abbrev pub item_told : RepackCopy → List ℕ → RepackItem
@@ -22,7 +22,7 @@ abbrev pub repack_told : ℕ → KeptRepack → RepackInfo
 repack_told id k = record { id = id; vid = k.vid; items = rows (items_told k.repack.items k.paths) }
 
 -- what is told of the repack of a number, none where there is no such repack
-abbrev pub info_in : Kept → ℕ → Option RepackInfo
+abbrev pub info_in : NamedRepacks → ℕ → Option RepackInfo
 info_in v id = option_map (repack_told id) (kept_in v id)
 
 -- a report with no room to spare in its list

@@ -4,8 +4,8 @@ ghost use Rattle.cta_model.specs.Mounts.{has_copy};
 ghost use Rattle.cta_model.specs.declared.states.RepackCopy.{RepackCopy};
 ghost use Rattle.cta_model.specs.History.{has_number};
 ghost use Rattle.cta_model.specs.Repacks.{is_live_item};
-ghost use Rattle.part_values.specs.Repacks.{RepacksAgree, add_repack, has_item_by, is_live_in, is_writing, reading_copies, repack_in, set_state, writers_in};
-ghost use Rattle.repack_book.specs.Kept.{NamesAgree, kept_in, names_in, repacks_of, set_in, tape_of};
+ghost use Rattle.part_model.specs.Repacks.{RepacksAgree, add_repack, has_item_by, is_live_in, is_writing, reading_copies, repack_in, set_state, writers_in};
+ghost use Rattle.repack_book.specs.NamedRepacks.{NamesAgree, kept_in, names_in, repacks_of, set_in, tape_of};
 ghost use Rattle.repack_book.specs.Reports.{bare_info, info_in};
 ghost use Rattle.repack_book.specs.Order.{has_holder, has_item};
 ghost use Rattle.repack_book.specs.Walks.{IsFirstFrom};
@@ -32,10 +32,10 @@ pub struct RepackBook {
 }
 
 impl Model for RepackBook {
-    ghost use Rattle.repack_book.specs.Kept.{Kept};
+    ghost use Rattle.repack_book.specs.NamedRepacks.{NamedRepacks};
     ghost use Rattle.repack_book.specs.Live.{AreIndexed};
 
-    ghost Value = { Kept };
+    ghost Value = { NamedRepacks };
 
     ghost view = { λ b. b.rows.entries };
 

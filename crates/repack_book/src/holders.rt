@@ -63,7 +63,7 @@ pub(crate) struct Holders {
 
 impl Model for Holders {
     ghost use Rattle.std.specs.Prelude.{◌≡◌, List, length};
-    ghost use Rattle.part_values.specs.Room.{Roomed};
+    ghost use Rattle.part_model.specs.Room.{Roomed};
     ghost use Rattle.sum_trees.specs.Forests.{items_in};
     ghost use Rattle.repack_book.specs.declared.holders.Holder.{Holder};
 

@@ -62,7 +62,7 @@ pub(crate) struct LiveItems {
 
 impl Model for LiveItems {
     ghost use Rattle.std.specs.Prelude.{◌≡◌, List, length};
-    ghost use Rattle.part_values.specs.Room.{Roomed};
+    ghost use Rattle.part_model.specs.Room.{Roomed};
     ghost use Rattle.sum_trees.specs.Forests.{items_in};
     ghost use Rattle.repack_book.specs.declared.items.LiveItem.{LiveItem};
 

@@ -7,8 +7,8 @@ ghost use Rattle.std.specs.List.{list_any};
 ghost use Rattle.cta_model.specs.declared.states.RepackCopy.{RepackCopy};
 ghost use Rattle.cta_model.specs.Repacks.{is_live_item};
 ghost use Rattle.cta_model.specs.History.{has_number};
-ghost use Rattle.part_values.specs.Repacks.{is_reading, is_writing, reading_copies};
-ghost use Rattle.repack_book.specs.Kept.{fresh_repack, set_in};
+ghost use Rattle.part_model.specs.Repacks.{is_reading, is_writing, reading_copies};
+ghost use Rattle.repack_book.specs.NamedRepacks.{fresh_repack, set_in};
 ghost use Rattle.repack_book.specs.Live.{has_live, has_state};
 ghost use Rattle.repack_book.specs.Order.{has_item};
 ghost use Rattle.repack_book.specs.Reports.{bare_info, items_told, repack_told};
@@ -32,7 +32,7 @@ pub(crate) struct RepackRow {
 }
 
 impl Model for RepackRow {
-    ghost use Rattle.repack_book.specs.Kept.{KeptRepack};
+    ghost use Rattle.repack_book.specs.NamedRepacks.{KeptRepack};
     ghost use Rattle.repack_book.specs.States.{AreStates, items_of};
 
     ghost Value = { KeptRepack };

@@ -3,7 +3,7 @@ ghost use Rattle.std.specs.Prelude.{◌≡◌, ℕ, ◌<◌, ◌^◌, ◌==◌, 
 ghost use Rattle.cta_model.specs.declared.reports.ItemState.TheVariants as item;
 ghost use Rattle.cta_model.specs.Mounts.{has_copy};
 ghost use Rattle.cta_model.specs.Repacks.{is_live_item};
-ghost use Rattle.part_values.specs.Repacks.{is_reading, is_writing};
+ghost use Rattle.part_model.specs.Repacks.{is_reading, is_writing};
 ghost use Rattle.repack_book.specs.States.{state_at, turned_if};
 
 use cta_model::{ItemState, Job};

@@ -5,7 +5,7 @@ use Rattle.cta_model.specs.Kept.{KeepsLegal}
 use Rattle.cta_laws.specs.Jobs.{ClaimerMoves, IsQueuedOrClaimed}
 use Rattle.cta_laws.specs.Mounts.{ClaimsNothingAfterEnd}
 use Rattle.cta_laws.specs.Media.{TrueMediumStays}
-use Rattle.history_laws.proofs.Held.{legal_histories_hold}
+use Rattle.cta_laws.proofs.Held.{legal_histories_hold}
 use Rattle.tape_routes.specs.Callers.{CallersAsk}
 use Rattle.replay.specs.Laws.{LiveReadsAreDone, RunsKeepPromises}
 use Rattle.replay.specs.Output.{after}

@@ -2,8 +2,7 @@ pub mod Forms
 pub mod Numbers
 pub mod Parts
 pub mod Drives
-pub mod Callers
-pub mod ForCallers
+pub mod RequestReplies
 pub mod Taking
 pub mod Writing
 pub mod Delivering
@@ -35,6 +34,6 @@ mod FreeRows
 mod ReadLines
 mod Freed
 mod Promised
-mod Rightly
+pub mod Rightly
 mod KeptPromises
 mod Plain

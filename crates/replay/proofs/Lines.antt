@@ -29,8 +29,8 @@ use Rattle.replay.specs.Promises.{HasGivenNext, HaveMediaBehind, IsSoundStep, it
 use Rattle.replay.specs.Outcome.{EndsScript, Finishes}
 use Rattle.replay.specs.RecordTurns.{AnswersRecord, Turns, TurnsAfter, stop_status}
 use Rattle.replay.specs.StepRecords.{EndsInStep, HasStepped}
-use Rattle.replay.specs.declared.line.Line.{Line}
-use Rattle.replay.specs.declared.line.Line.TheVariants.{Step}
+use Rattle.replay.specs.declared.line.ScriptLine.{ScriptLine}
+use Rattle.replay.specs.declared.line.ScriptLine.TheVariants.{Step}
 use Rattle.replay.specs.declared.intake.Stop.{Stop}
 use Rattle.replay.specs.declared.status.Status.{Status}
 use Rattle.replay.specs.declared.status.Status.TheVariants.{Ok, Script, WriteFault, NoMemory}
@@ -94,7 +94,7 @@ module _ (k : RunState) (before : List Turn) (s s' : ScriptView) (out : SinkView
   line_long part plain long took =
       ends_there (record { whole = []; tail = LongLine part }) (Script s.taken) took (tt, (plain, long)) refl (inl (0, refl, omega arith), wrote_none k out)
 
-  pub line_bad : (line : List ℕ) → Without 10 line → length line ≤ 256 → ((x : Line) → IsLine k.site x → text k.site x ≢ line) → Took s s' (line ++ 10 ∷ [])
+  pub line_bad : (line : List ℕ) → Without 10 line → length line ≤ 256 → ((x : ScriptLine) → IsLine k.site x → text k.site x ≢ line) → Took s s' (line ++ 10 ∷ [])
       → Finishes k before (world s out) (world s' out) (Script s.taken)
   line_bad line plain fits none took =
       ends_there (record { whole = []; tail = BadLine line }) (Script s.taken) took (tt, (plain, fits, none)) refl (inl (0, refl, omega arith), wrote_none k out)

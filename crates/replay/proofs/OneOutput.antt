@@ -77,7 +77,7 @@ feeds_told (OnDrive drive moment done seen left ∷ ts) = feeds_told ts
 same_feed : (f g : Feed) → OfLink f ≡ OfLink g → f ≡ g
 same_feed f g e = cc
 
-no_drive : (f : Feed) (drive moment : ℕ) → OfLink f ≡ OfDrive drive moment → ⊥
+pub no_drive : (f : Feed) (drive moment : ℕ) → OfLink f ≡ OfDrive drive moment → ⊥
 no_drive f drive moment e = cc
 
 -- turns that are told alike differ in no more than media, and how drives are seen

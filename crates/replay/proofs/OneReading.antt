@@ -6,8 +6,8 @@ use Rattle.cta_site.specs.WellFormed.{IsWellFormed}
 use Rattle.cta_site.specs.Bytes.{Without}
 use Rattle.replay.specs.Line.{text, http_text, IsLine}
 use Rattle.replay.specs.Script.{Record, ScriptTail, Ended, InLine, InBytes, BadLine, LongLine, NoLf, IsScriptTail, IsRecord, HasOneReading, ended, spelling, whole_bytes, tail_bytes}
-use Rattle.replay.specs.declared.line.Line.{Line}
-use Rattle.replay.specs.declared.line.Line.TheVariants.{Http, Step, End}
+use Rattle.replay.specs.declared.line.ScriptLine.{ScriptLine}
+use Rattle.replay.specs.declared.line.ScriptLine.TheVariants.{Http, Step, End}
 use Rattle.replay.proofs.Parts.{same_words, no_word}
 use Rattle.replay.proofs.Texts.{http, same_head, same_front}
 use Rattle.replay.proofs.SaidLines.{Without-line, same_said}
@@ -16,7 +16,7 @@ use Rattle.replay.proofs.Readings.{same_record, against, below_record, spelled, 
 -- ---- a tail by its first line: a line of a script and what stands behind its LF, or a line that is none, or no LF at all
 
 data Front : Type 0 where
-  Said : (line : Line) (rest : List ℕ) → Front
+  Said : (line : ScriptLine) (rest : List ℕ) → Front
   Unsaid : (line : List ℕ) → Front
   Open : (part : List ℕ) → Front
 
@@ -35,7 +35,7 @@ front_bytes site (Open part) = part
 
 abbrev IsFrontOf : Site → Front → Type 0
 IsFrontOf site (Said line rest) = IsLine site line
-IsFrontOf site (Unsaid line) = Without 10 line × ((l : Line) → IsLine site l → text site l ≢ line)
+IsFrontOf site (Unsaid line) = Without 10 line × ((l : ScriptLine) → IsLine site l → text site l ≢ line)
 IsFrontOf site (Open part) = Without 10 part
 
 fronted : (site : Site) (t : ScriptTail) → tail_bytes site t ≡ front_bytes site (front_of t)

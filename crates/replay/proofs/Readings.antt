@@ -8,15 +8,15 @@ use Rattle.replay.specs.Line.{text, http_text, IsLine}
 use Rattle.links.specs.Run.{Feed}
 use Rattle.replay.specs.Script.{feed, Record, OfLink, OfDrive, ScriptTail, Ended, InLine, InBytes, BadLine, LongLine, NoLf, MayGoOn, IsScriptTail, IsRecord, ended, feeding, whole_bytes, tail_bytes, spelling}
 use Rattle.replay.specs.declared.line.HttpLine.{HttpLine}
-use Rattle.replay.specs.declared.line.Line.{Line}
-use Rattle.replay.specs.declared.line.Line.TheVariants.{Http, Step, End}
+use Rattle.replay.specs.declared.line.ScriptLine.{ScriptLine}
+use Rattle.replay.specs.declared.line.ScriptLine.TheVariants.{Http, Step, End}
 use Rattle.replay.proofs.Texts.{http, same_head, same_front, length-without}
 use Rattle.replay.proofs.Parts.{same_words}
 use Rattle.replay.proofs.SaidLines.{Without-line, length-line, same_first}
 
 -- ---- a record, by its line and what stands behind it
 
-abbrev pub line_of_record : Record → Line
+abbrev pub line_of_record : Record → ScriptLine
 line_of_record (OfLink f) = http f.link f.moment (length f.bytes)
 line_of_record (OfDrive drive moment) = Step drive moment
 
@@ -80,7 +80,7 @@ module _ (site : Site) (valid : IsWellFormed site) where
       same_behind e f r s p.0 p.1
 
   -- what a tail is where a line of a record or the line `end` stands
-  abbrev Against : ScriptTail → List ℕ → Line → List ℕ → Type 0
+  abbrev Against : ScriptTail → List ℕ → ScriptLine → List ℕ → Type 0
   Against Ended x l z = End ≡ l
   Against (InLine part) x l z = length part ≤ length (text site l)
   Against (InBytes link moment len held) x l z = (http link moment len ≡ l) × (held ++ x ≡ z)
@@ -88,7 +88,7 @@ module _ (site : Site) (valid : IsWellFormed site) where
   Against (LongLine part) x l z = ⊥
   Against (NoLf link moment bytes byte) x l z = (http link moment (length bytes) ≡ l) × (bytes ++ byte ∷ x ≡ z)
 
-  pub against : (t : ScriptTail) (x : List ℕ) (l : Line) (z : List ℕ) → IsScriptTail site t → IsLine site l → tail_bytes site t ++ x ≡ text site l ++ 10 ∷ z → Against t x l z
+  pub against : (t : ScriptTail) (x : List ℕ) (l : ScriptLine) (z : List ℕ) → IsScriptTail site t → IsLine site l → tail_bytes site t ++ x ≡ text site l ++ 10 ∷ z → Against t x l z
   against Ended x l z h k e = (same_first site valid End l x z tt k e).0
   against (InLine part) x l z h k e = length-without 10 part (text site l) x z h.0 e
   against (InBytes link moment len held) x l z h k e =

@@ -17,7 +17,7 @@ use Rattle.cta_model.specs.Mounts.{claimer_of, claims, has_job, is_open, open_mo
 use Rattle.cta_laws.specs.Claims.{claimer_after}
 use Rattle.cta_laws.specs.Jobs.{ClaimerMoves, IsQueuedOrClaimed}
 use Rattle.cta_laws.specs.Mounts.{ClaimsNothingAfterEnd}
-use Rattle.history_laws.proofs.Held.{legal_histories_hold}
+use Rattle.cta_laws.proofs.Held.{legal_histories_hold}
 use Rattle.replay.specs.Outcome.{AreMade}
 use Rattle.replay.specs.Promises.{KeepsPromises, LeavesNoJob, ReturnsJobs}
 use Rattle.replay.specs.Steps.{Made}

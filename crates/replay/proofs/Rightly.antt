@@ -42,17 +42,17 @@ put_other (y ∷ xs) zero (suc j) x apart = refl
 put_other (y ∷ xs) (suc k) zero x apart = refl
 put_other (y ∷ xs) (suc k) (suc j) x apart = put_other xs k j x (λ e. apart (ap suc e))
 
-all_put : {A : Type 0} (P : A → Type 0) (xs : List A) (k : ℕ) (x : A) → P x → AllByRecursion P xs → AllByRecursion P (slice_set xs k x)
+pub all_put : {A : Type 0} (P : A → Type 0) (xs : List A) (k : ℕ) (x : A) → P x → AllByRecursion P xs → AllByRecursion P (slice_set xs k x)
 all_put P [] k x is all = tt
 all_put P (y ∷ xs) zero x is all = (is, all.1)
 all_put P (y ∷ xs) (suc k) x is all = (all.0, all_put P xs k x is all.1)
 
-all_got : {A : Type 0} (P : A → Type 0) (xs : List A) (k : ℕ) (x : A) → slice_get xs k ≡ Some x → AllByRecursion P xs → P x
+pub all_got : {A : Type 0} (P : A → Type 0) (xs : List A) (k : ℕ) (x : A) → slice_get xs k ≡ Some x → AllByRecursion P xs → P x
 all_got P [] k x is all = absurd (none-some x is)
 all_got P (y ∷ xs) zero x is all = subst P (same_Some y x is) all.0
 all_got P (y ∷ xs) (suc k) x is all = all_got P xs k x is all.1
 
-all_map : {A B : Type 0} (P : B → Type 0) (f : A → B) (xs : List A) → ((k : ℕ) (x : A) → slice_get xs k ≡ Some x → P (f x)) → AllByRecursion P (map f xs)
+pub all_map : {A B : Type 0} (P : B → Type 0) (f : A → B) (xs : List A) → ((k : ℕ) (x : A) → slice_get xs k ≡ Some x → P (f x)) → AllByRecursion P (map f xs)
 all_map P f [] each = tt
 all_map P f (x ∷ xs) each = (each 0 x refl, all_map P f xs (λ k y is. each (suc k) y is))
 
@@ -63,23 +63,23 @@ record AllTell (s : RunState) : Type 0 where
   shelf : AllByRecursion IsTelling s.shelf
   drives : AllByRecursion (λ (d : DriveState). IsTelling d.medium) s.drives
 
-told_at : (shelf : List (Option MediumView)) (v : ℕ) → AllByRecursion IsTelling shelf → IsTelling (medium_at shelf v)
+pub told_at : (shelf : List (Option MediumView)) (v : ℕ) → AllByRecursion IsTelling shelf → IsTelling (medium_at shelf v)
 told_at [] v all = tt
 told_at (o ∷ shelf) zero all = all.0
 told_at (o ∷ shelf) (suc v) all = told_at shelf v all.1
 
-shelf_tells : (k : Ask) (a : Answer) (left : Option MediumView) (shelf : List (Option MediumView)) → IsTelling left → AllByRecursion IsTelling shelf → AllByRecursion IsTelling (shelf_after k a left shelf)
+pub shelf_tells : (k : Ask) (a : Answer) (left : Option MediumView) (shelf : List (Option MediumView)) → IsTelling left → AllByRecursion IsTelling shelf → AllByRecursion IsTelling (shelf_after k a left shelf)
 shelf_tells (ask.Next d) (answer.Mounted m way v) left shelf tells all = all_put IsTelling shelf v None tt all
 shelf_tells (ask.End m fault) a None shelf tells all = all
 shelf_tells (ask.End m fault) a (Some x) shelf tells all = all_put IsTelling shelf x.label (Some x) tells all
 shelf_tells _ a left shelf tells all = all
 
-drive_tells : (k : Option Ask) (a : Option Answer) (left : Option MediumView) (shelf : List (Option MediumView)) → IsTelling left → AllByRecursion IsTelling shelf → IsTelling (medium_behind shelf left k a)
+pub drive_tells : (k : Option Ask) (a : Option Answer) (left : Option MediumView) (shelf : List (Option MediumView)) → IsTelling left → AllByRecursion IsTelling shelf → IsTelling (medium_behind shelf left k a)
 drive_tells (Some (ask.Next d)) (Some (answer.Mounted m way v)) left shelf tells all = told_at shelf v all
 drive_tells (Some (ask.End m fault)) a left shelf tells all = tt
 drive_tells _ a left shelf tells all = tells
 
-kept_tells : (s : RunState) (moment : ℕ) (left : Option MediumView) (k : Option Ask) → IsTelling left → AllByRecursion IsTelling s.shelf → AllByRecursion IsTelling (kept_by (kept_in s) moment left k).shelf
+pub kept_tells : (s : RunState) (moment : ℕ) (left : Option MediumView) (k : Option Ask) → IsTelling left → AllByRecursion IsTelling s.shelf → AllByRecursion IsTelling (kept_by (kept_in s) moment left k).shelf
 kept_tells s moment left None tells all = all
 kept_tells s moment left (Some k) tells all =
     elim (cases_Bool (is_accepted (answer_of s.site s.history moment k))) [

@@ -46,7 +46,7 @@ kept_after-site k t asks a brought = by_cases (is_accepted a) refl
     by_cases true e = rw (← e) refl
     by_cases false e = rw (← e) refl
 
-kept_then-site : (k : Kept) (t : ℕ) (x : Asked) → (kept_then k t x).site ≡ k.site
+pub kept_then-site : (k : Kept) (t : ℕ) (x : Asked) → (kept_then k t x).site ≡ k.site
 unfolding kept_then
 kept_then-site k t (Asks ask content) = kept_after-site k t ask _ None
 kept_then-site k t (Looks look) = refl

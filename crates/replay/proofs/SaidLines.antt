@@ -7,8 +7,8 @@ use Rattle.cta_site.specs.declared.site.Site.{Site}
 use Rattle.cta_site.specs.WellFormed.{IsWellFormed}
 use Rattle.cta_site.specs.Bytes.{Without}
 use Rattle.replay.specs.Line.{text, step_words, drive_name, IsDriveStep, IsLine}
-use Rattle.replay.specs.declared.line.Line.{Line}
-use Rattle.replay.specs.declared.line.Line.TheVariants.{Http, Step, End}
+use Rattle.replay.specs.declared.line.ScriptLine.{ScriptLine}
+use Rattle.replay.specs.declared.line.ScriptLine.TheVariants.{Http, Step, End}
 use Rattle.replay.proofs.Parts.{same_words, Without-decimal}
 use Rattle.replay.proofs.Drives.{Without-drive, length-drive, same_drive}
 use Rattle.replay.proofs.Texts.{length-text, not_step, same_text, Without-text, Without-word}
@@ -19,12 +19,12 @@ module _ (site : Site) (valid : IsWellFormed site) where
       Without-word (codes "step") (step_words site drive moment) ((λ e. omega arith), ((λ e. omega arith), ((λ e. omega arith), ((λ e. omega arith), tt))))
       (Without-word (drive_name site drive) (decimal moment) (Without-drive 10 site drive refl valid h.0) (Without-decimal 10 moment (omega arith) (omega arith)))
 
-  pub Without-line : (l : Line) → IsLine site l → Without 10 (text site l)
+  pub Without-line : (l : ScriptLine) → IsLine site l → Without 10 (text site l)
   Without-line (Http l) h = Without-text (Http l) h
   Without-line (Step drive moment) h = Without-step drive moment h
   Without-line End h = Without-text End h
 
-  pub length-line : (l : Line) → IsLine site l → length (text site l) ≤ 256
+  pub length-line : (l : ScriptLine) → IsLine site l → length (text site l) ≤ 256
   length-line (Http l) h = length-text (Http l) h
   length-line (Step drive moment) h =
       let name : length (drive_name site drive) ≤ 64 = length-drive site drive valid h.0 in
@@ -40,7 +40,7 @@ module _ (site : Site) (valid : IsWellFormed site) where
       ap (λ x. Step x m) (same_drive site d d' valid h.0 k.0 p.0) ∙ ap (Step d') (decimal_injective m m' (omega arith) (omega arith) p.1)
 
   -- two lines for a site differ in their text
-  pub same_said : (l l' : Line) → IsLine site l → IsLine site l' → text site l ≡ text site l' → l ≡ l'
+  pub same_said : (l l' : ScriptLine) → IsLine site l → IsLine site l' → text site l ≡ text site l' → l ≡ l'
   same_said (Http l) (Http l') h k e = same_text (Http l) (Http l') h k e
   same_said (Http l) (Step d m) h k e = absurd (not_step site d m (Http l) [] [] h (ap (λ x. x ++ []) (sym e)))
   same_said (Http l) End h k e = same_text (Http l) End h k e
@@ -52,7 +52,7 @@ module _ (site : Site) (valid : IsWellFormed site) where
   same_said End End h k e = refl
 
   -- the first line of a text that begins with a line
-  pub same_first : (l l' : Line) (x y : List ℕ) → IsLine site l → IsLine site l' → text site l ++ 10 ∷ x ≡ text site l' ++ 10 ∷ y → (l ≡ l') × (x ≡ y)
+  pub same_first : (l l' : ScriptLine) (x y : List ℕ) → IsLine site l → IsLine site l' → text site l ++ 10 ∷ x ≡ text site l' ++ 10 ∷ y → (l ≡ l') × (x ≡ y)
   same_first l l' x y h k e =
       let p = same_words 10 (text site l) (text site l') x y (Without-line l h) (Without-line l' k) e in
       (same_said l l' h k p.0, p.1)

@@ -3,13 +3,13 @@ use Rattle.std.proofs.Common.{◌≡◌, ℕ, zero, suc, ◌<◌, Bool, true, fa
 use Rattle.std.specs.Prelude.{IfOk, Option, Some, None, Result, Ok, Err, is_ok, map, slice_get, slice_index_or, slice_set}
 use Rattle.std.proofs.lemmas.Option.{same_Some, slice_get-get_or}
 use Rattle.blob.specs.Records.{MediumView}
-use Rattle.cta_site.specs.declared.no_memory.NoMemory.{NoMemory}
+use Rattle.cta_values.specs.declared.no_memory.NoMemory.{NoMemory}
 use Rattle.cta_site.specs.declared.site.Site.{Site}
 use Rattle.cta_model.specs.declared.asks.Ask.{Ask}
 use Rattle.cta_model.specs.History.{History}
 use Rattle.cta_model.specs.Kept.{Kept}
 use Rattle.cta_model.specs.Legal.{IsLegal}
-use Rattle.archive.specs.Kept.{AreShelved}
+use Rattle.archive.specs.States.{AreShelved}
 use Rattle.media.specs.Drives.{DriveView}
 use Rattle.drive_session.specs.declared.reports.Done.{Done}
 use Rattle.drive_session.specs.declared.reports.StepLine.{StepLine}

@@ -6,23 +6,23 @@ use Rattle.std.proofs.lemmas.List.{append_cancel_left}
 use Rattle.cta_site.specs.declared.site.Site.{Site}
 use Rattle.cta_site.specs.Bytes.{Without}
 use Rattle.replay.specs.Line.{text, http_text, http_words, then_word, IsHttp}
-use Rattle.replay.specs.declared.line.Line.{Line}
-use Rattle.replay.specs.declared.line.Line.TheVariants.{Http, Step, End}
+use Rattle.replay.specs.declared.line.ScriptLine.{ScriptLine}
+use Rattle.replay.specs.declared.line.ScriptLine.TheVariants.{Http, Step, End}
 use Rattle.replay.proofs.Parts.{same_words, Without-append, Without-decimal}
 
 -- ---- lines
 
 -- the line of a record, by its numbers
-abbrev pub http : ℕ → ℕ → ℕ → Line
+abbrev pub http : ℕ → ℕ → ℕ → ScriptLine
 http link moment len = Http (record { link = link; moment = moment; len = len })
 
 -- a line of a record of bytes, or the line `end`
-abbrev pub IsBuiltLine : Line → Type 0
+abbrev pub IsBuiltLine : ScriptLine → Type 0
 IsBuiltLine (Http h) = IsHttp h.link h.moment h.len
 IsBuiltLine (Step drive moment) = ⊥
 IsBuiltLine End = Unit {0}
 
-abbrev pub line_text : Line → List ℕ
+abbrev pub line_text : ScriptLine → List ℕ
 line_text (Http h) = http_text h.link h.moment h.len
 line_text (Step drive moment) = []
 line_text End = codes "end"
@@ -30,7 +30,7 @@ line_text End = codes "end"
 pub Without-word : (a b : List ℕ) → Without 10 a → Without 10 b → Without 10 (then_word a b)
 Without-word a b p q = Without-append 10 a (32 ∷ b) p ((λ e. omega arith), q)
 
-pub Without-text : (l : Line) → IsBuiltLine l → Without 10 (line_text l)
+pub Without-text : (l : ScriptLine) → IsBuiltLine l → Without 10 (line_text l)
 Without-text (Http l) h =
     let words = Without-word (decimal l.link) (then_word (decimal l.moment) (decimal l.len)) (Without-decimal 10 l.link (omega arith) (omega arith))
     (Without-word (decimal l.moment) (decimal l.len) (Without-decimal 10 l.moment (omega arith) (omega arith)) (Without-decimal 10 l.len (omega arith) (omega arith))) in
@@ -38,7 +38,7 @@ Without-text (Http l) h =
 Without-text (Step drive moment) h = absurd h
 Without-text End h = ((λ e. omega arith), ((λ e. omega arith), ((λ e. omega arith), tt)))
 
-pub length-text : (l : Line) → IsBuiltLine l → length (line_text l) ≤ 256
+pub length-text : (l : ScriptLine) → IsBuiltLine l → length (line_text l) ≤ 256
 length-text (Http l) h =
     let a : length (decimal l.link) ≤ 10 = length-decimal-le 10 l.link (omega arith) (omega arith) (omega arith) in
     let b : length (decimal l.moment) ≤ 12 = length-decimal-le 12 l.moment (omega arith) (omega arith) (omega arith) in
@@ -64,7 +64,7 @@ same_http a b c a' b' c' h h' e =
     (decimal_injective a a' (omega arith) (omega arith) p.0, decimal_injective b b' (omega arith) (omega arith) q.0, decimal_injective c c' (omega arith) (omega arith) q.1)
 
 -- two lines differ in their text
-pub same_text : (l l' : Line) → IsBuiltLine l → IsBuiltLine l' → line_text l ≡ line_text l' → l ≡ l'
+pub same_text : (l l' : ScriptLine) → IsBuiltLine l → IsBuiltLine l' → line_text l ≡ line_text l' → l ≡ l'
 same_text (Http l) (Http m) h h' e =
     let words : http_words l.link l.moment l.len ≡ http_words m.link m.moment m.len = append_cancel_left (codes "http ") (http_words l.link l.moment l.len) (http_words m.link m.moment m.len) e in
     let p = same_http l.link l.moment l.len m.link m.moment m.len h h' words in
@@ -77,13 +77,13 @@ same_text End (Step a' b') h h' e = absurd h'
 same_text End End h h' e = refl
 
 -- the first line of a text that begins with a line
-pub same_line : (l l' : Line) (x y : List ℕ) → IsBuiltLine l → IsBuiltLine l' → line_text l ++ 10 ∷ x ≡ line_text l' ++ 10 ∷ y → (l ≡ l') × (x ≡ y)
+pub same_line : (l l' : ScriptLine) (x y : List ℕ) → IsBuiltLine l → IsBuiltLine l' → line_text l ++ 10 ∷ x ≡ line_text l' ++ 10 ∷ y → (l ≡ l') × (x ≡ y)
 same_line l l' x y h h' e =
     let p = same_words 10 (line_text l) (line_text l') x y (Without-text l h) (Without-text l' h') e in
     (same_text l l' h h' p.0, p.1)
 
 -- no `step` line begins so
-pub not_step : (site : Site) (drive moment : ℕ) (l : Line) (x y : List ℕ) → IsBuiltLine l → text site (Step drive moment) ++ x ≡ line_text l ++ y → ⊥
+pub not_step : (site : Site) (drive moment : ℕ) (l : ScriptLine) (x y : List ℕ) → IsBuiltLine l → text site (Step drive moment) ++ x ≡ line_text l ++ y → ⊥
 not_step site drive moment (Http l) x y h e = apart 115 104 _ _ (λ f. omega arith) e
 not_step site drive moment (Step a b) x y h e = h
 not_step site drive moment End x y h e = apart 115 101 _ _ (λ f. omega arith) e

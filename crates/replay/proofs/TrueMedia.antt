@@ -20,7 +20,7 @@ use Rattle.cta_laws.specs.Media.{TrueMediumStays, puts_on}
 use Rattle.cta_laws.proofs.Frames.{mounts_same}
 use Rattle.cta_laws.proofs.MountLaw.{tape_is_mounted}
 use Rattle.cta_laws.proofs.OpenMounts.{mount_older, open_older}
-use Rattle.archive.specs.Kept.{AreFirstMedia, AreShelved}
+use Rattle.archive.specs.States.{AreFirstMedia, AreShelved}
 use Rattle.archive.specs.Shelf.{IsPlaceOf}
 use Rattle.media.specs.Drives.{DriveView}
 use Rattle.media.specs.Made.{IsNewMedium}

@@ -2,7 +2,7 @@
 use Rattle.std.proofs.Common.{◌≡◌, ℕ, true, false, refl, sym, ap, ◌∙◌, subst}
 use Rattle.std.specs.Prelude.{IfOk, IsSome, Option, Some, None, Result, Ok, Err, option_map}
 use Rattle.blob.specs.Records.{MediumView, TapeRecords, with_records}
-use Rattle.cta_site.specs.declared.no_memory.NoMemory.{NoMemory}
+use Rattle.cta_values.specs.declared.no_memory.NoMemory.{NoMemory}
 use Rattle.cta_model.specs.declared.answers.Answer.{Answer}
 use Rattle.cta_model.specs.declared.answers.Answer.TheVariants as answer
 use Rattle.cta_model.specs.declared.asks.Ask.{Ask}

@@ -7,7 +7,6 @@ pub mod Run
 pub mod Seen
 pub mod Output
 pub mod Promises
-pub mod Hands
 pub mod Intake
 pub mod Outcome
 pub mod RecordTurns

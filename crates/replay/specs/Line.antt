@@ -5,8 +5,8 @@ use Rattle.cta_site.specs.Names.{drive_names}
 use Rattle.cta_site.specs.declared.site.Site.{Site}
 use Rattle.cta_model.specs.Legal.{greatest_moment}
 use Rattle.replay.specs.Bytes.{then_byte}
-use Rattle.replay.specs.declared.line.Line.{Line}
-use Rattle.replay.specs.declared.line.Line.TheVariants.{Http, Step, End}
+use Rattle.replay.specs.declared.line.ScriptLine.{ScriptLine}
+use Rattle.replay.specs.declared.line.ScriptLine.TheVariants.{Http, Step, End}
 
 -- a word, a space and the rest
 abbrev pub then_word : List ℕ → List ℕ → List ℕ
@@ -29,7 +29,7 @@ abbrev pub http_text : ℕ → ℕ → ℕ → List ℕ
 http_text link moment len = then_word (codes "http") (http_words link moment len)
 
 -- a line without the LF that ends it
-abbrev pub text : Site → Line → List ℕ
+abbrev pub text : Site → ScriptLine → List ℕ
 text site (Http h) = http_text h.link h.moment h.len
 text site (Step drive moment) = then_word (codes "step") (step_words site drive moment)
 text site End = codes "end"
@@ -43,7 +43,7 @@ abbrev pub IsDriveStep : Site → ℕ → ℕ → Type 0
 IsDriveStep site drive moment = (drive < length site.drives.items) × (moment ≤ greatest_moment)
 
 -- a line of a script for a site
-abbrev pub IsLine : Site → Line → Type 0
+abbrev pub IsLine : Site → ScriptLine → Type 0
 IsLine site (Http h) = IsHttp h.link h.moment h.len
 IsLine site (Step drive moment) = IsDriveStep site drive moment
 IsLine site End = Unit {0}

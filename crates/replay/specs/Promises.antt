@@ -14,7 +14,7 @@ use Rattle.cta_model.specs.Jobs.{is_live_job}
 use Rattle.cta_model.specs.Legal.{IsLegal}
 use Rattle.cta_model.specs.Media.{IsMediumOf}
 use Rattle.cta_model.specs.Mounts.{has_job, is_mounted}
-use Rattle.history_laws.specs.Holding.{HoldsLaws}
+use Rattle.cta_laws.specs.Holding.{HoldsLaws}
 use Rattle.cta_laws.specs.Jobs.{IsClaimed, IsQueued}
 use Rattle.media.specs.Drives.{DriveView}
 use Rattle.drive_session.specs.declared.reports.Done.{Done}

@@ -5,8 +5,8 @@ use Rattle.cta_site.specs.declared.site.Site.{Site}
 use Rattle.links.specs.Run.{Feed}
 use Rattle.cta_site.specs.Bytes.{Without}
 use Rattle.replay.specs.Line.{text, http_text, IsHttp, IsDriveStep, IsLine}
-use Rattle.replay.specs.declared.line.Line.{Line}
-use Rattle.replay.specs.declared.line.Line.TheVariants.{Step}
+use Rattle.replay.specs.declared.line.ScriptLine.{ScriptLine}
+use Rattle.replay.specs.declared.line.ScriptLine.TheVariants.{Step}
 
 -- a line with its LF
 abbrev pub ended : List ℕ → List ℕ
@@ -64,7 +64,7 @@ abbrev pub IsScriptTail : Site → ScriptTail → Type 0
 IsScriptTail site Ended = Unit {0}
 IsScriptTail site (InLine part) = Without 10 part × (length part ≤ 256)
 IsScriptTail site (InBytes link moment len held) = IsHttp link moment len × (length held ≤ len)
-IsScriptTail site (BadLine line) = Without 10 line × (length line ≤ 256) × ((l : Line) → IsLine site l → text site l ≢ line)
+IsScriptTail site (BadLine line) = Without 10 line × (length line ≤ 256) × ((l : ScriptLine) → IsLine site l → text site l ≢ line)
 IsScriptTail site (LongLine part) = Without 10 part × (length part ≡ 257)
 IsScriptTail site (NoLf link moment bytes byte) = IsHttp link moment (length bytes) × (byte ≢ 10)
 

@@ -2,7 +2,7 @@
 ghost use Rattle.std.specs.Prelude.{◌≡◌, ◌≢◌, ◌<◌, ◌≤◌, ℕ, length, MatchOption};
 ghost use Rattle.cta_site.specs.declared.site.Site.{Site};
 ghost use Rattle.replay.specs.Line.{text, drive_name, http_words, step_words, IsHttp, IsDriveStep, IsLine};
-ghost use Rattle.replay.specs.declared.line.Line.{Line};
+ghost use Rattle.replay.specs.declared.line.ScriptLine.{ScriptLine};
 
 use crate::bytes::{first_part, number_of};
 use cta_site::ValidSite;
@@ -17,7 +17,7 @@ pub(crate) struct HttpLine {
 
 // What a line of a script says.
 #[derive(Clone, Copy, Debug, PartialEq, Eq)]
-pub(crate) enum Line {
+pub(crate) enum ScriptLine {
     Http(HttpLine),
     Step { drive: u32, moment: u64 },
     End,
@@ -88,12 +88,12 @@ fn step_of(words: &[u8], site: &ValidSite) -> Option<(u32, u64)>
 }
 
 // What a line says, without its LF, for a site.
-pub(crate) fn line_of(line: &[u8], site: &ValidSite) -> Option<Line>
-    ensures { MatchOption result ((l : Line) → IsLine site.now l → text site.now l ≢ line.now)
+pub(crate) fn line_of(line: &[u8], site: &ValidSite) -> Option<ScriptLine>
+    ensures { MatchOption result ((l : ScriptLine) → IsLine site.now l → text site.now l ≢ line.now)
         (λ l. IsLine site.now l × (text site.now l ≡ line.now)) }
 {
     if line == b"end".as_slice() {
-        return Some(Line::End);
+        return Some(ScriptLine::End);
     }
     let Some((word, words)) = first_part(line, b' ') else {
         return None;
@@ -102,13 +102,13 @@ pub(crate) fn line_of(line: &[u8], site: &ValidSite) -> Option<Line>
         let Some(http) = http_of(words) else {
             return None;
         };
-        return Some(Line::Http(http));
+        return Some(ScriptLine::Http(http));
     }
     if word == b"step".as_slice() {
         let Some((drive, moment)) = step_of(words, site) else {
             return None;
         };
-        return Some(Line::Step { drive, moment });
+        return Some(ScriptLine::Step { drive, moment });
     }
     None
 }

@@ -12,7 +12,7 @@ ghost use Rattle.replay.specs.StepRecords.{HasStepped};
 use crate::feeding::{FeedEnd, feed_record};
 use crate::front::Front;
 use crate::intake::{LINE, LineEnd, Stop, take_byte, take_line};
-use crate::line::{HttpLine, Line, line_of};
+use crate::line::{HttpLine, ScriptLine, line_of};
 use crate::output::Unwritten;
 use crate::status::Status;
 use crate::step_lines::put_line;
@@ -140,9 +140,13 @@ pub(crate) fn one_record<S: Source, K: Sink, D: TapeDrive + Drop>(
         LineEnd::Long => Some(Status::Script { offset: start }),
         LineEnd::Whole(n) => match line_of(&line[..n], front.desk.site()) {
             None => Some(Status::Script { offset: start }),
-            Some(Line::End) => Some(Status::Ok),
-            Some(Line::Step { drive, moment }) => step_record(alloc, front, out, drive, moment),
-            Some(Line::Http(http)) => http_record(alloc, front, script, taken, out, buffer, http),
+            Some(ScriptLine::End) => Some(Status::Ok),
+            Some(ScriptLine::Step { drive, moment }) => step_record(
+                alloc, front, out, drive, moment,
+            ),
+            Some(ScriptLine::Http(http)) => http_record(
+                alloc, front, script, taken, out, buffer, http,
+            ),
         },
     }
 }

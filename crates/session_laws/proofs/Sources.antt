@@ -27,34 +27,7 @@ use Rattle.cta_laws.proofs.Ranges.{all_filter_map, range_all}
 use Rattle.cta_laws.proofs.Tests.{bool_cases, or_left, or_right}
 use Rattle.media.specs.Reads.{HasSafe, record_at}
 use Rattle.drive_session.specs.Records.{AreSafe}
-
--- a place is that of a copy of the file
-abbrev IsPlaceOf : History → ℕ → Place → Type 0
-IsPlaceOf h f p = (c : ℕ) × (place_of h f c ≡ Some p)
-
-sources_are_places : (site : Site) (h : History) (f : ℕ) → AllOf (IsPlaceOf h f) (sources_of site h f)
-sources_are_places site h f =
-    let all : AllOf (IsPlaceOf h f) (all_places site h f) = all_filter_map (IsPlaceOf h f) (place_of h f) (copy_numbers site h f) (range_all (λ c. (p : Place) → place_of h f c ≡ Some p → IsPlaceOf h f p) 1 (copies_of_file site h f) (λ c low high p is. (c, is))) in
-    let whole : AllOf (IsPlaceOf h f) (places_of site h f) = all_filter (IsPlaceOf h f) (λ (p : Place). not (is_broken (tape_state site h p.tape))) (all_places site h f) all in
-    else_all (IsPlaceOf h f) (filter (λ (p : Place). may_be_read (tape_state site h p.tape)) (places_of site h f)) (places_of site h f) (all_filter (IsPlaceOf h f) (λ (p : Place). may_be_read (tape_state site h p.tape)) (places_of site h f) whole) whole
-
--- a source on the tape is found where the recall's tape is that tape
-source_there : (v i : ℕ) (ps : List Place) → is_number v (option_map (λ (p : Place). p.tape) (slice_get ps i)) ≡ true → list_any (λ (p : Place). p.tape == v) ps ≡ true
-source_there v i [] e = absurd (cc)
-source_there v zero (p ∷ ps) e = or_left (p.tape == v) _ (eq-eqb p.tape v (sym (eqb-true v p.tape e)))
-source_there v (suc i) (p ∷ ps) e = or_right (p.tape == v) _ (source_there v i ps e)
-
-found_place : (P : Place → Type 0) (v : ℕ) (ps : List Place) → AllOf P ps → list_any (λ (p : Place). p.tape == v) ps ≡ true → (p : Place) × (find (λ (q : Place). q.tape == v) ps ≡ Some p) × (p.tape ≡ v) × P p
-found_place P v [] all e = absurd (cc)
-found_place P v (p ∷ ps) all e =
-    elim (bool_cases (p.tape == v)) [
-      | inl hit ↦ (p, rw hit refl, eqb-true p.tape v hit, all.0)
-      | inr miss ↦ (let q = found_place P v ps all.1 (rw miss at e) in (q.0, rw miss q.1, q.2, q.3))
-    ]
-
-recall_copy : (c : ℕ) → same_direction direction.Retrieve (way_by c) ≡ true → c ≡ 0
-recall_copy zero e = refl
-recall_copy (suc c) e = absurd (cc)
+use Rattle.cta_laws.proofs.BatchOrder.{IsPlaceOf, found_place, recall_copy, source_there, sources_are_places}
 
 -- the item of a job has a safe record on a true medium of the tape, with the sum of its file
 abbrev IsSafe : Site → History → ℕ → TapeRecords → Job → Type 0

@@ -6,7 +6,7 @@ use Rattle.std.proofs.lemmas.Bool.{eqb-true}
 use Rattle.cta_model.specs.declared.states.StageFile.{StageFile}
 use Rattle.cta_model.specs.declared.states.RequestFile.{RequestFile}
 use Rattle.cta_model.specs.Stages.{StageRequest}
-use Rattle.part_values.specs.Requests.{Requests, RequestsAgree, add_request, added_file, remove_request, request_in, turn_request}
+use Rattle.part_model.specs.Requests.{Requests, RequestsAgree, add_request, added_file, remove_request, request_in, turn_request}
 
 pub flip : (x y : ℕ) → (x == y) ≡ (y == x)
 flip x y = grind arith

@@ -1,168 +1,128 @@
 -- Files of a request that are turned.
-use Rattle.std.proofs.Common.{◌≡◌, ◌∙◌, ◌||◌, ℕ, List, [], ◌∷◌, Bool, true, false, refl, sym, ap, subst, None, Some}
-use Rattle.std.specs.Prelude.{Option, if◌then◌else◌, ◌==◌, bytes_eq, is_some, option_map, unwrap_or, map}
+use Rattle.std.proofs.Common.{◌≡◌, ◌∙◌, ◌||◌, ℕ, zero, suc, List, [], ◌∷◌, Bool, true, false, refl, sym, ap, subst, None, Some}
+use Rattle.std.specs.Prelude.{Option, String, if◌then◌else◌, ◌==◌, map, slice_get}
+use Rattle.std.specs.Global.{Global}
+use Rattle.std.specs.Map.{values_of}
+use Rattle.std.proofs.lemmas.Bool.{eqb-true, eq-eqb}
+use Rattle.indexmap.specs.IndexMap.{set_value_at}
 use Rattle.cta_model.specs.declared.reports.FileState.{FileState}
 use Rattle.cta_model.specs.declared.reports.FileState.TheVariants as file
-use Rattle.cta_model.specs.declared.states.StageFile.{StageFile}
 use Rattle.cta_model.specs.declared.states.RequestFile.{RequestFile}
-use Rattle.std.specs.Prelude.{slice_get}
-use Rattle.std.proofs.lemmas.Bool.{eq-eqb}
 use Rattle.cta_model.specs.History.{is_number}
 use Rattle.cta_model.specs.Stages.{first_start, started}
-use Rattle.part_values.specs.declared.space.FileEnd.{FileEnd}
-use Rattle.part_values.specs.declared.space.FileEnd.TheVariants as end
-use Rattle.part_values.specs.Requests.{added_file, ended_file, released_at, turned_file, where_waiting}
-use Rattle.stage_book.specs.declared.progress.Progress.{Progress}
-use Rattle.stage_book.specs.Requested.{has_file, has_path}
-use Rattle.stage_book.specs.Progresses.{Progresses, end_error, end_state, ended_at, fresh, no_progress, progress_in, progress_of, started_at, waits}
-use Rattle.stage_book.specs.Files.{AreKept, Flags, IsFresh, IsPlaced, file_at, file_there, file_with, flag_in}
-use Rattle.stage_book.proofs.Paths.{bytes_flip, bytes_itself}
+use Rattle.part_model.specs.declared.space.FileEnd.{FileEnd}
+use Rattle.part_model.specs.declared.space.FileEnd.TheVariants as end
+use Rattle.part_model.specs.Requests.{ended_file, turned_file, where_waiting}
+use Rattle.stage_book.specs.declared.file_row.FileRow.{FileRow}
+use Rattle.stage_book.specs.FileRows.{Entry, FileRows, end_error, end_state, ended_at, file_of, files_in, started_at, turned_there, waits}
+use Rattle.stage_book.specs.Places.{AreNumbersApart, ArePlaced, IsPlaced, Places, names_file, numbers_in, place_in}
+use Rattle.stage_book.proofs.Lists.{clash, last_no, neither, or_right}
 
-clash : {b : Bool} → b ≡ true → b ≡ false → ⊥
-clash e f = cc
+-- ---- one file
 
--- progress of these parts
-abbrev parts : FileState → Option ℕ → Option ℕ → Option (List ℕ) → ℕ → Progress
-parts st begun over error place = record { state = st; started = begun; finished = over; error = error; place = place }
+-- a path and a file of these parts
+abbrev parts : String Global → Option ℕ → ℕ → FileState → Option ℕ → Option ℕ → Option (List ℕ) → Bool → Entry
+parts k o lifetime st begun over error gone = (k, record { file = o; lifetime = lifetime; state = st; started = begun; finished = over; error = error; released = gone })
 
-start_parts : (at : ℕ) (s : StageFile) (b : Bool) (st : FileState) (begun over : Option ℕ) (error : Option (List ℕ)) (place : ℕ)
-    → file_with s (started_at at (parts st begun over error place)) b ≡ where_waiting (λ r. started r at) st (file_with s (parts st begun over error place) b)
-start_parts at s b file.Submitted begun over error place = refl
-start_parts at s b file.Started begun over error place = refl
-start_parts at s b file.Completed begun over error place = refl
-start_parts at s b file.Failed begun over error place = refl
-start_parts at s b file.Cancelled begun over error place = refl
+start_parts : (at : ℕ) (k : String Global) (o : Option ℕ) (l : ℕ) (st : FileState) (b f : Option ℕ) (e : Option (List ℕ)) (g : Bool)
+    → file_of (k, started_at at (parts k o l st b f e g).1) ≡ where_waiting (λ r. started r at) st (file_of (parts k o l st b f e g))
+start_parts at k o l file.Submitted b f e g = refl
+start_parts at k o l file.Started b f e g = refl
+start_parts at k o l file.Completed b f e g = refl
+start_parts at k o l file.Failed b f e g = refl
+start_parts at k o l file.Cancelled b f e g = refl
 
-pub start_with : (at : ℕ) (s : StageFile) (p : Progress) (b : Bool) → file_with s (started_at at p) b ≡ where_waiting (λ r. started r at) p.state (file_with s p b)
-start_with at s p b = start_parts at s b p.state p.started p.finished p.error p.place
+pub start_with : (at : ℕ) (e : Entry) → file_of (e.0, started_at at e.1) ≡ where_waiting (λ r. started r at) e.1.state (file_of e)
+start_with at e = start_parts at e.0 e.1.file e.1.lifetime e.1.state e.1.started e.1.finished e.1.error e.1.released
 
-end_parts : (at : ℕ) (how : FileEnd) (s : StageFile) (b : Bool) (st : FileState) (begun over : Option ℕ) (error : Option (List ℕ)) (place : ℕ)
-    → file_with s (ended_at at how (parts st begun over error place)) b ≡ where_waiting (ended_file at how) st (file_with s (parts st begun over error place) b)
-end_parts at end.Completed s b file.Submitted begun over error place = refl
-end_parts at end.Cancelled s b file.Submitted begun over error place = refl
-end_parts at (end.Failed text) s b file.Submitted begun over error place = refl
-end_parts at end.Completed s b file.Started begun over error place = refl
-end_parts at end.Cancelled s b file.Started begun over error place = refl
-end_parts at (end.Failed text) s b file.Started begun over error place = refl
-end_parts at how s b file.Completed begun over error place = refl
-end_parts at how s b file.Failed begun over error place = refl
-end_parts at how s b file.Cancelled begun over error place = refl
+end_parts : (at : ℕ) (how : FileEnd) (k : String Global) (o : Option ℕ) (l : ℕ) (st : FileState) (b f : Option ℕ) (e : Option (List ℕ)) (g : Bool)
+    → file_of (k, ended_at at how (parts k o l st b f e g).1) ≡ where_waiting (ended_file at how) st (file_of (parts k o l st b f e g))
+end_parts at end.Completed k o l file.Submitted b f e g = refl
+end_parts at end.Cancelled k o l file.Submitted b f e g = refl
+end_parts at (end.Failed text) k o l file.Submitted b f e g = refl
+end_parts at end.Completed k o l file.Started b f e g = refl
+end_parts at end.Cancelled k o l file.Started b f e g = refl
+end_parts at (end.Failed text) k o l file.Started b f e g = refl
+end_parts at how k o l file.Completed b f e g = refl
+end_parts at how k o l file.Failed b f e g = refl
+end_parts at how k o l file.Cancelled b f e g = refl
 
-pub end_with : (at : ℕ) (how : FileEnd) (s : StageFile) (p : Progress) (b : Bool) → file_with s (ended_at at how p) b ≡ where_waiting (ended_file at how) p.state (file_with s p b)
-end_with at how s p b = end_parts at how s b p.state p.started p.finished p.error p.place
+pub end_with : (at : ℕ) (how : FileEnd) (e : Entry) → file_of (e.0, ended_at at how e.1) ≡ where_waiting (ended_file at how) e.1.state (file_of e)
+end_with at how e = end_parts at how e.0 e.1.file e.1.lifetime e.1.state e.1.started e.1.finished e.1.error e.1.released
 
-at_number : (f : ℕ) (old new : Progresses) (go : Progress → Progress) → ((q : ℕ) → progress_in new q ≡ (if f == q then option_map go (progress_in old q) else progress_in old q)) → go no_progress ≡ no_progress
-    → (g : ℕ) → unwrap_or (progress_in new g) no_progress ≡ (if f == g then go (unwrap_or (progress_in old g) no_progress) else unwrap_or (progress_in old g) no_progress)
-at_number f old new go each keeps g = ap (λ (o : Option Progress). unwrap_or o no_progress) (each g) ∙ by (f == g) (progress_in old g)
+pub start_stays : (at : ℕ) (r : FileRow) → (started_at at r).file ≡ r.file
+start_stays at r = elim (waits r.state) as (λ b. (if b then record r { state = file.Started; started = first_start r.started at } else r).file ≡ r.file) [ true ↦ refl | false ↦ refl ]
+
+pub end_stays : (at : ℕ) (how : FileEnd) (r : FileRow) → (ended_at at how r).file ≡ r.file
+end_stays at how r = elim (waits r.state) as (λ b. (if b then record r { state = end_state how; finished = Some at; error = end_error how } else r).file ≡ r.file) [ true ↦ refl | false ↦ refl ]
+
+-- ---- the file at a place
+
+-- a value written at a place turns the file there
+pub written_turns : (turn : FileRow → FileRow) (es : FileRows) (n : ℕ) (old new : FileRow) → slice_get (values_of es) n ≡ Some old → new ≡ turn old → set_value_at es n new ≡ turned_there turn n es
+written_turns turn [] n old new e is = refl
+written_turns turn (x ∷ xs) zero old new e is = (let same : x.1 ≡ old = cc in (λ i. (x.0, (is ∙ ap turn (sym same)) i) ∷ xs))
+written_turns turn (x ∷ xs) (suc n) old new e is = ap (λ (ys : FileRows). x ∷ ys) (written_turns turn xs n old new e is)
+
+-- nothing turns at a place that is not there
+pub nothing_turns : (turn : FileRow → FileRow) (es : FileRows) (n : ℕ) → slice_get (values_of es) n ≡ None → es ≡ turned_there turn n es
+nothing_turns turn [] n e = refl
+nothing_turns turn (x ∷ xs) zero e = absurd (cc)
+nothing_turns turn (x ∷ xs) (suc n) e = ap (λ (ys : FileRows). x ∷ ys) (nothing_turns turn xs n e)
+
+-- ---- the files of a number
+
+-- files of other numbers do not turn
+pub others_stay : (f : ℕ) (turn : RequestFile → RequestFile) (fs : List RequestFile) → names_file f (numbers_in fs) ≡ false → fs ≡ map (turned_file f turn) fs
+others_stay f turn [] e = refl
+others_stay f turn (s ∷ ss) e =
+    (λ i. (if sym (neither (is_number f s.file) _ e) i then where_waiting turn s.state s else s) ∷ others_stay f turn ss (last_no (is_number f s.file) _ e) i)
+
+pub there : (f : ℕ) (numbers : List (Option ℕ)) (n : ℕ) → slice_get numbers n ≡ Some (Some f) → names_file f numbers ≡ true
+there f [] n e = absurd (cc)
+there f (o ∷ os) zero e = (let same : o ≡ Some f = cc in ap (λ (x : Option ℕ). is_number f x || names_file f os) same ∙ ap (λ (b : Bool). b || names_file f os) (eq-eqb f f refl))
+there f (o ∷ os) (suc n) e = or_right (is_number f o) _ (there f os n e)
+
+-- what a number has before it is another number
+pub before : (f : ℕ) (o : Option ℕ) (os : List (Option ℕ)) → AreNumbersApart (o ∷ os) → names_file f os ≡ true → is_number f o ≡ false
+before f None os apart h = refl
+before f (Some g) os apart h = by (f == g) refl
   where
-    by : (b : Bool) (o : Option Progress) → unwrap_or (if b then option_map go o else o) no_progress ≡ (if b then go (unwrap_or o no_progress) else unwrap_or o no_progress)
-    by true None = sym keeps
-    by true (Some p) = refl
-    by false o = refl
+    by : (b : Bool) → (f == g) ≡ b → (f == g) ≡ false
+    by true k = absurd (clash (ap (λ (x : ℕ). names_file x os) (sym (eqb-true f g k)) ∙ h) apart.0)
+    by false k = k
 
--- a file that a request is made of
-abbrev asked : List ℕ → Option ℕ → ℕ → StageFile
-asked path o lifetime = record { path = path; file = o; lifetime = lifetime }
+pub behind : (o : Option ℕ) (os : List (Option ℕ)) → AreNumbersApart (o ∷ os) → AreNumbersApart os
+behind None os apart = apart
+behind (Some g) os apart = apart.1
 
-turn_one : (at f : ℕ) (old new : Progresses) (flags : Flags) (go : Progress → Progress) (turn : RequestFile → RequestFile) → ((q : ℕ) → progress_in new q ≡ (if f == q then option_map go (progress_in old q) else progress_in old q)) → go no_progress ≡ no_progress
-    → ((s : StageFile) (p : Progress) (b : Bool) → file_with s (go p) b ≡ where_waiting turn p.state (file_with s p b))
-    → (path : List ℕ) (o : Option ℕ) (lifetime : ℕ) → file_at at new flags (asked path o lifetime) ≡ turned_file f turn (file_at at old flags (asked path o lifetime))
-turn_one at f old new flags go turn each keeps turns path None lifetime = refl
-turn_one at f old new flags go turn each keeps turns path (Some g) lifetime = ap (λ (p : Progress). file_with (asked path (Some g) lifetime) p (unwrap_or (flag_in flags path) false)) (at_number f old new go each keeps g) ∙ by (f == g) (unwrap_or (progress_in old g) no_progress)
-  where
-    by : (d : Bool) (p : Progress) → file_with (asked path (Some g) lifetime) (if d then go p else p) (unwrap_or (flag_in flags path) false) ≡ (if d then where_waiting turn p.state (file_with (asked path (Some g) lifetime) p (unwrap_or (flag_in flags path) false)) else file_with (asked path (Some g) lifetime) p (unwrap_or (flag_in flags path) false))
-    by true p = turns (asked path (Some g) lifetime) p (unwrap_or (flag_in flags path) false)
-    by false p = refl
+pub alone : (f : ℕ) (o : Option ℕ) (os : List (Option ℕ)) → AreNumbersApart (o ∷ os) → o ≡ Some f → names_file f os ≡ false
+alone f None os apart e = absurd (cc)
+alone f (Some g) os apart e = (let same : g ≡ f = cc in ap (λ (x : ℕ). names_file x os) (sym same) ∙ apart.0)
 
-pub turn_files : (at f : ℕ) (old new : Progresses) (flags : Flags) (go : Progress → Progress) (turn : RequestFile → RequestFile) → ((q : ℕ) → progress_in new q ≡ (if f == q then option_map go (progress_in old q) else progress_in old q)) → go no_progress ≡ no_progress
-    → ((s : StageFile) (p : Progress) (b : Bool) → file_with s (go p) b ≡ where_waiting turn p.state (file_with s p b))
-    → (files : List StageFile) → map (file_at at new flags) files ≡ map (turned_file f turn) (map (file_at at old flags) files)
-turn_files at f old new flags go turn each keeps turns [] = refl
-turn_files at f old new flags go turn each keeps turns (s ∷ ss) = (λ i. turn_one at f old new flags go turn each keeps turns s.path s.file s.lifetime i ∷ turn_files at f old new flags go turn each keeps turns ss i)
+-- the file at a place turns, and no other has its number
+pub turns : (f : ℕ) (go : FileRow → FileRow) (turn : RequestFile → RequestFile) → ((e : Entry) → file_of (e.0, go e.1) ≡ where_waiting turn e.1.state (file_of e))
+    → (es : FileRows) (n : ℕ) → slice_get (numbers_in (files_in es)) n ≡ Some (Some f) → AreNumbersApart (numbers_in (files_in es))
+    → files_in (turned_there go n es) ≡ map (turned_file f turn) (files_in es)
+turns f go turn with_it [] n e apart = refl
+turns f go turn with_it (x ∷ xs) zero e apart =
+    (let same : x.1.file ≡ Some f = cc in
+    let its : is_number f x.1.file ≡ true = ap (is_number f) same ∙ eq-eqb f f refl in
+    (λ i. (with_it x ∙ ap (λ (b : Bool). if b then where_waiting turn x.1.state (file_of x) else file_of x) (sym its)) i ∷ others_stay f turn (files_in xs) (alone f x.1.file (numbers_in (files_in xs)) apart same) i))
+turns f go turn with_it (x ∷ xs) (suc n) e apart =
+    (let other : is_number f x.1.file ≡ false = before f x.1.file (numbers_in (files_in xs)) apart (there f (numbers_in (files_in xs)) n e) in
+    (λ i. ap (λ (b : Bool). if b then where_waiting turn x.1.state (file_of x) else file_of x) (sym other) i ∷ turns f go turn with_it xs n e (behind x.1.file (numbers_in (files_in xs)) apart) i))
 
--- what is kept stands where a file moves on and stays at its place
-pub turn_kept : (f : ℕ) (old new : Progresses) (flags : Flags) (files : List StageFile) (go : Progress → Progress) → ((q : ℕ) → progress_in new q ≡ (if f == q then option_map go (progress_in old q) else progress_in old q)) → ((p : Progress) → (go p).place ≡ p.place) → AreKept old flags files → AreKept new flags files
-turn_kept f old new flags files go each stays k = record {
-  named = k.named;
-  placed = λ q. subst (IsPlaced files q) (sym (each q)) (by q (f == q) (progress_in old q) (k.placed q));
-  apart = k.apart;
-}
-  where
-    moved : (q : ℕ) (o : Option Progress) → IsPlaced files q o → IsPlaced files q (option_map go o)
-    moved q None h = h
-    moved q (Some p) h = subst (λ (n : ℕ). is_number q (file_there (slice_get files n)) ≡ true) (sym (stays p)) h
+-- a file that turns keeps its number
+pub numbers_stay : (go : FileRow → FileRow) → ((r : FileRow) → (go r).file ≡ r.file) → (es : FileRows) (n : ℕ) → numbers_in (files_in es) ≡ numbers_in (files_in (turned_there go n es))
+numbers_stay go stays [] n = refl
+numbers_stay go stays (x ∷ xs) zero = ap (λ (o : Option ℕ). o ∷ numbers_in (files_in xs)) (sym (stays x.1))
+numbers_stay go stays (x ∷ xs) (suc n) = ap (λ (os : List (Option ℕ)). x.1.file ∷ os) (numbers_stay go stays xs n)
 
-    by : (q : ℕ) (b : Bool) (o : Option Progress) → IsPlaced files q o → IsPlaced files q (if b then option_map go o else o)
-    by q true o h = moved q o h
-    by q false o h = h
+-- a file that has a place is there
+pub its_place : (ps : Places) (numbers : List (Option ℕ)) (f n : ℕ) → ArePlaced ps numbers → place_in ps f ≡ Some n → slice_get numbers n ≡ Some (Some f)
+its_place ps numbers f n kept here = subst (IsPlaced numbers f) here (kept.placed f)
 
-pub start_stays : (at : ℕ) (p : Progress) → (started_at at p).place ≡ p.place
-start_stays at p = elim (waits p.state) as (λ b. (if b then record p { state = file.Started; started = first_start p.started at } else p).place ≡ p.place) [ true ↦ refl | false ↦ refl ]
-
-pub end_stays : (at : ℕ) (how : FileEnd) (p : Progress) → (ended_at at how p).place ≡ p.place
-end_stays at how p = elim (waits p.state) as (λ b. (if b then record p { state = end_state how; finished = Some at; error = end_error how } else p).place ≡ p.place) [ true ↦ refl | false ↦ refl ]
-
--- ---- released paths
-
-release_one : (at : ℕ) (ps : Progresses) (old new : Flags) (path : List ℕ) → ((q : List ℕ) → flag_in new q ≡ (if bytes_eq q path then option_map (λ (b : Bool). true) (flag_in old q) else flag_in old q))
-    → (s : StageFile) → is_some (flag_in old s.path) ≡ true → file_at at ps new s ≡ released_at path (file_at at ps old s)
-release_one at ps old new path each s there = ap (λ (b : Bool). file_with s (progress_of at ps s.file) b) (ap (λ (o : Option Bool). unwrap_or o false) (each s.path)) ∙ by (bytes_eq s.path path) (flag_in old s.path) there
-    ∙ ap (λ (b : Bool). if b then file_with s (progress_of at ps s.file) true else file_with s (progress_of at ps s.file) (unwrap_or (flag_in old s.path) false)) (bytes_flip s.path path)
-  where
-    by : (b : Bool) (o : Option Bool) → is_some o ≡ true → file_with s (progress_of at ps s.file) (unwrap_or (if b then option_map (λ (c : Bool). true) o else o) false) ≡ (if b then file_with s (progress_of at ps s.file) true else file_with s (progress_of at ps s.file) (unwrap_or o false))
-    by true None h = absurd (cc)
-    by true (Some c) h = refl
-    by false o h = refl
-
-or_left : (a c : Bool) → a ≡ true → (a || c) ≡ true
-or_left true c e = refl
-or_left false c e = absurd (cc)
-
-or_right : (a c : Bool) → c ≡ true → (a || c) ≡ true
-or_right true c e = refl
-or_right false c e = e
-
-pub release_files : (at : ℕ) (ps : Progresses) (old new : Flags) (path : List ℕ) → ((q : List ℕ) → flag_in new q ≡ (if bytes_eq q path then option_map (λ (b : Bool). true) (flag_in old q) else flag_in old q))
-    → (files : List StageFile) → ((q : List ℕ) → has_path q files ≡ true → is_some (flag_in old q) ≡ true) → map (file_at at ps new) files ≡ map (released_at path) (map (file_at at ps old) files)
-release_files at ps old new path each [] known = refl
-release_files at ps old new path each (s ∷ ss) known =
-    (λ i. release_one at ps old new path each s (known s.path (or_left (bytes_eq s.path s.path) _ (bytes_itself s.path))) i ∷ release_files at ps old new path each ss (λ q h. known q (or_right (bytes_eq q s.path) _ h)) i)
-
-pub release_kept : (ps : Progresses) (old new : Flags) (path : List ℕ) (files : List StageFile) → ((q : List ℕ) → flag_in new q ≡ (if bytes_eq q path then option_map (λ (b : Bool). true) (flag_in old q) else flag_in old q)) → AreKept ps old files → AreKept ps new files
-release_kept ps old new path files each k = record {
-  named = λ q. ap is_some (each q) ∙ by (bytes_eq q path) (flag_in old q) ∙ k.named q;
-  placed = k.placed;
-  apart = k.apart;
-}
-  where
-    by : (b : Bool) (o : Option Bool) → is_some (if b then option_map (λ (c : Bool). true) o else o) ≡ is_some o
-    by true None = refl
-    by true (Some c) = refl
-    by false o = refl
-
--- ---- a new request
-
-new_one : (at : ℕ) (ps : Progresses) (flags : Flags) (path : List ℕ) (o : Option ℕ) (lifetime : ℕ) → unwrap_or (flag_in flags path) false ≡ false → ((g : ℕ) → o ≡ Some g → (n : ℕ) × (progress_in ps g ≡ Some (fresh n)))
-    → file_at at ps flags (asked path o lifetime) ≡ added_file at (asked path o lifetime) o
-new_one at ps flags path None lifetime off there = ap (λ (b : Bool). file_with (asked path None lifetime) (progress_of at ps None) b) off
-new_one at ps flags path (Some g) lifetime off there =
-    (let w : (n : ℕ) × (progress_in ps g ≡ Some (fresh n)) = there g refl in
-    ap (λ (b : Bool). file_with (asked path (Some g) lifetime) (unwrap_or (progress_in ps g) no_progress) b) off
-    ∙ ap (λ (x : Option Progress). file_with (asked path (Some g) lifetime) (unwrap_or x no_progress) false) w.1)
-
-fresh_there : (ps : Progresses) (files : List StageFile) → ((f : ℕ) → IsPlaced files f (progress_in ps f)) → ((f : ℕ) → IsFresh (progress_in ps f)) → (g : ℕ) → has_file g files ≡ true → (n : ℕ) × (progress_in ps g ≡ Some (fresh n))
-fresh_there ps files placed new g h = by (progress_in ps g) refl (placed g) (new g)
-  where
-    by : (o : Option Progress) → progress_in ps g ≡ o → IsPlaced files g o → IsFresh o → (n : ℕ) × (progress_in ps g ≡ Some (fresh n))
-    by None e p f = absurd (clash h p)
-    by (Some q) e p f = (q.place, e ∙ ap (λ (x : Progress). Some x) f)
-
-pub new_files : (at : ℕ) (ps : Progresses) (flags : Flags) (files : List StageFile) → ((path : List ℕ) → unwrap_or (flag_in flags path) false ≡ false) → ((g : ℕ) → has_file g files ≡ true → (n : ℕ) × (progress_in ps g ≡ Some (fresh n)))
-    → map (file_at at ps flags) files ≡ map (λ (s : StageFile). added_file at s s.file) files
-new_files at ps flags [] off there = refl
-new_files at ps flags (s ∷ ss) off there =
-    (λ i. new_one at ps flags s.path s.file s.lifetime (off s.path) (λ g e. there g (or_left (is_number g s.file) _ (ap (is_number g) e ∙ eq-eqb g g refl))) i ∷ new_files at ps flags ss off (λ g h. there g (or_right (is_number g s.file) _ h)) i)
-
-pub all_new : (at : ℕ) (ps : Progresses) (flags : Flags) (files : List StageFile) → ((path : List ℕ) → unwrap_or (flag_in flags path) false ≡ false) → ((f : ℕ) → IsPlaced files f (progress_in ps f)) → ((f : ℕ) → IsFresh (progress_in ps f))
-    → map (file_at at ps flags) files ≡ map (λ (s : StageFile). added_file at s s.file) files
-all_new at ps flags files off placed new = new_files at ps flags files off (fresh_there ps files placed new)
+-- a file that has none is not there
+pub no_place : (ps : Places) (numbers : List (Option ℕ)) (f : ℕ) → ArePlaced ps numbers → place_in ps f ≡ None → names_file f numbers ≡ false
+no_place ps numbers f kept none = subst (IsPlaced numbers f) none (kept.placed f)

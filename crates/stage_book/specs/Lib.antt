@@ -1,4 +1,4 @@
 pub mod Requested
-pub mod Progresses
-pub mod Files
+pub mod FileRows
+pub mod Places
 pub mod Reports

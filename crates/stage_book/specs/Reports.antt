@@ -8,16 +8,11 @@ use Rattle.cta_model.specs.declared.states.RequestFile.{RequestFile}
 use Rattle.cta_model.specs.Bare.{bare_rows}
 use Rattle.cta_model.specs.Reports.{earlier_of, greatest_finish, later_of, least_start}
 use Rattle.cta_model.specs.Stages.{StageRequest}
-use Rattle.part_values.specs.Requests.{Requests, request_in}
-use Rattle.stage_book.specs.declared.progress.Progress.{Progress}
+use Rattle.part_model.specs.Requests.{Requests, request_in}
 
 -- what is told of a file of a request
 abbrev pub file_told : RequestFile → StageFileInfo
 file_told s = record { path = s.path; state = s.state; on_disk = false; started_at = s.started; finished_at = s.finished; error = s.error }
-
--- what is told of a path with this progress
-abbrev pub progress_told : List ℕ → Progress → StageFileInfo
-progress_told path p = record { path = path; state = p.state; on_disk = false; started_at = p.started; finished_at = p.finished; error = p.error }
 
 -- what is told of a request
 abbrev pub request_told : ℕ → StageRequest → StageInfo

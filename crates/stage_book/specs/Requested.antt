@@ -23,6 +23,11 @@ abbrev pub AreApart : List StageFile → Type 0
 AreApart [] = Unit {0}
 AreApart (s ∷ ss) = IsOther s.file ss × AreApart ss
 
+-- no path is among them twice
+abbrev pub ArePathsApart : List StageFile → Type 0
+ArePathsApart [] = Unit {0}
+ArePathsApart (s ∷ ss) = (has_path s.path ss ≡ false) × ArePathsApart ss
+
 -- how many files a request has, 0 where there is none
 abbrev pub count_of : Option StageRequest → ℕ
 count_of None = 0

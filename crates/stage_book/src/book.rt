@@ -1,16 +1,16 @@
 // The book of stage requests.
 ghost use Rattle.std.specs.Prelude.{◌≡◌, [], Some, None, is_some, option_map, IfOk, OnOk, OnErr, ◌<◌, slice_get};
-ghost use Rattle.part_values.specs.Held.{kept_end};
-ghost use Rattle.part_values.specs.Requests as said;
-ghost use Rattle.part_values.specs.Requests.{RequestsAgree, add_request, has_path_in, pin_end_in, release, remove_request, request_in};
+ghost use Rattle.part_model.specs.Held.{kept_end};
+ghost use Rattle.part_model.specs.Requests as said;
+ghost use Rattle.part_model.specs.Requests.{RequestsAgree, add_request, has_path_in, pin_end_in, release, remove_request, request_in};
 ghost use Rattle.stage_book.specs.Reports.{bare_info, files_of, info_in, number_of, path_of, state_of};
-ghost use Rattle.stage_book.specs.Requested.{AreApart, count_of};
+ghost use Rattle.stage_book.specs.Requested.{AreApart, ArePathsApart, count_of};
 
 use crate::row::RequestRow;
 use cta_model::{FileState, StageFile, StageInfo};
 use cta_site::{NoMemory, Rows};
 use number_map::{NumberMap, new_map};
-use part_values::FileEnd;
+use part_model::FileEnd;
 use std::alloc::Global;
 use std::hash::RandomState;
 use std::marker::Model;
@@ -25,7 +25,7 @@ pub struct StageBook {
 }
 
 impl Model for StageBook {
-    ghost use Rattle.part_values.specs.Requests.{Requests};
+    ghost use Rattle.part_model.specs.Requests.{Requests};
 
     ghost Value = { Requests };
 
@@ -72,10 +72,11 @@ impl StageBook {
     }
 
     /// A request of a moment is there from then on, whatever its number named before: each file that a path named is SUBMITTED, and a
-    /// path that named none is FAILED. No file is named twice. NoMemory changes nothing. Its cost is the number of files and the length
-    /// of their paths.
+    /// path that named none is FAILED. No file and no path is named twice. NoMemory changes nothing. Its cost is the number of files and
+    /// the length of their paths.
     pub fn add(&mut self, id: u32, at: u64, files: Rows<StageFile>) -> Result<(), NoMemory>
-        requires { AreApart files.items }
+        requires apart { AreApart files.items }
+        requires paths { ArePathsApart files.items }
         ensures added { OnOk result (RequestsAgree self.new (add_request id at files.items self.old)) }
         ensures unchanged { OnErr result (self.new ≡ self.old) }
     {
@@ -102,7 +103,7 @@ impl StageBook {
     }
 
     /// Until when the request pins the file, in seconds since 1970; None exactly where it does not pin it. The greatest number stands
-    /// for no end. Its cost is the length of the file's path.
+    /// for no end. In constant time.
     pub fn pin_end(&self, id: u32, file: u32) -> Option<u64>
         ensures { result ≡ option_map kept_end (pin_end_in self.now id file) }
     {

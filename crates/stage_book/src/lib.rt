@@ -2,7 +2,7 @@
 #![tactic(auto)]
 
 mod book;
-mod progress;
+mod file_row;
 mod report;
 mod row;
 

@@ -1,13 +1,12 @@
 // What is told of files, and of their moments together.
 ghost use Rattle.std.specs.Prelude.{◌≡◌, if◌then◌else◌, IfOk};
 ghost use Rattle.cta_model.specs.Reports as report;
-ghost use Rattle.stage_book.specs.Progresses.{nameless};
-ghost use Rattle.stage_book.specs.Reports.{greatest_told, least_told, progress_told};
+ghost use Rattle.stage_book.specs.FileRows.{file_of};
+ghost use Rattle.stage_book.specs.Reports.{file_told, greatest_told, least_told};
 
-use crate::progress::Progress;
-use cta_model::{FileState, StageFileInfo};
+use crate::file_row::FileRow;
+use cta_model::StageFileInfo;
 use cta_site::{NoMemory, Text};
-use std::alloc::Global;
 
 // A text where there is one, once more.
 fn copy_text(text: &Option<Text>) -> Result<Option<Text>, NoMemory>
@@ -22,35 +21,19 @@ fn copy_text(text: &Option<Text>) -> Result<Option<Text>, NoMemory>
     }
 }
 
-// What is told of a path with this progress.
-pub(crate) fn tell(path: &Text, progress: &Progress) -> Result<StageFileInfo, NoMemory>
-    ensures { IfOk result (λ told. told ≡ progress_told path.now progress.now) }
+// What is told of a file of this path. NoMemory gives nothing. Its cost is the length of the path and of the error.
+pub(crate) fn tell(path: &String, row: &FileRow) -> Result<StageFileInfo, NoMemory>
+    ensures { IfOk result (λ told. told ≡ file_told (file_of (path.now, row.now))) }
 {
-    let path = path.copy()?;
-    let error = copy_text(&progress.error)?;
+    let path = path.clone()?;
+    let error = copy_text(&row.error)?;
     Ok(StageFileInfo {
-        path,
-        state: progress.state,
+        path: Text::of(path),
+        state: row.state,
         on_disk: false,
-        started_at: progress.started,
-        finished_at: progress.finished,
+        started_at: row.started,
+        finished_at: row.finished,
         error,
-    })
-}
-
-// What is told of a path that named no file at this moment.
-pub(crate) fn tell_nameless(alloc: Global, path: &Text, at: u64) -> Result<StageFileInfo, NoMemory>
-    ensures { IfOk result (λ told. told ≡ progress_told path.now (nameless at)) }
-{
-    let path = path.copy()?;
-    let error = String::from_str(alloc, "no such file")?;
-    Ok(StageFileInfo {
-        path,
-        state: FileState::Failed,
-        on_disk: false,
-        started_at: None,
-        finished_at: Some(at),
-        error: Some(Text::of(error)),
     })
 }
 

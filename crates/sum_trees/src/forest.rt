@@ -12,7 +12,7 @@ use crate::ranges::sum_of_range;
 use crate::search::{first_item, item_after, item_from, item_like};
 use crate::sought::Sought;
 use crate::summed::Summed;
-use cta_site::NoMemory;
+use cta_values::NoMemory;
 use std::alloc::Global;
 use std::marker::Model;
 

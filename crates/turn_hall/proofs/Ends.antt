@@ -9,7 +9,7 @@ use lib.ListN.{get_elem?}
 use Rattle.atomic_table.specs.Table.{State, opening, Final, Seen}
 use Rattle.turn_hall.specs.declared.view.Made.{Made}
 use Rattle.turn_hall.specs.declared.view.View.{View}
-use Rattle.turn_hall.specs.declared.view.Kept.{Kept}
+use Rattle.turn_hall.specs.declared.view.InSlot.{InSlot}
 use Rattle.turn_hall.specs.Lists.{total, Once, Between}
 use Rattle.turn_hall.specs.Calls.{is_turn, is_entry}
 use Rattle.turn_hall.specs.Views.{seats_of, calls_of, turns_at, adds_at, count_of, fresh}
@@ -24,7 +24,7 @@ module _ {T W E C B : Type 0} (history : T → List E) (right : Option W → T �
   V = View W E C B
 
   abbrev S : Type 0
-  S = Option (Kept T C B)
+  S = Option (InSlot T C B)
 
   one_view : (u : V) (i : ℕ) (v : V) → get_elem? (u ∷ []) i ≡ some v → u ≡ v
   one_view u zero v e = some-injective u v e
@@ -34,7 +34,7 @@ module _ {T W E C B : Type 0} (history : T → List E) (right : Option W → T �
   only_index u zero v e = refl
   only_index u (suc i) v e = absurd (some-ne-none v (sym e))
 
-  pub opens : (all : ℕ) (k : Kept T C B) → right o k.value → ((q j : ℕ) (f : E) → get_elem? (history k.value) q ≡ some f → topic f ≡ Some j → j ≤ q + 1) → 0 < all → all < 4294967296
+  pub opens : (all : ℕ) (k : InSlot T C B) → right o k.value → ((q j : ℕ) (f : E) → get_elem? (history k.value) q ≡ some f → topic f ≡ Some j → j ≤ q + 1) → 0 < all → all < 4294967296
       → KeepsRule history right o plays topic adds all (history k.value) (opening (0 ∷ 0 ∷ []) (Some k ∷ []) (fresh o all (history k.value)))
   opens all k good below some_seat few =
       let log : List E = history k.value in
@@ -73,7 +73,7 @@ module _ {T W E C B : Type 0} (history : T → List E) (right : Option W → T �
 
   pub closes : (all : ℕ) (begun : List E) (id : ℕ) (v : V) (ws : List ℕ) (xs : List S) (slot : S) → v.ticket ≡ None → v.in_turn ≡ false → all ≡ v.seats
       → Final (Seen (KeepsRule history right o plays topic adds all begun) id v) ws xs → get_elem? xs 0 ≡ some slot
-      → (k : Kept T C B) × (slot ≡ Some k) × (history k.value ≡ v.seen) × right o k.value × Accounted plays adds begun v
+      → (k : InSlot T C B) × (slot ≡ Some k) × (history k.value ≡ v.seen) × right o k.value × Accounted plays adds begun v
   closes all begun id v ws xs slot rest out have f found =
       let s : State S V = f.0 in
       let r = f.1.0 in
@@ -108,14 +108,14 @@ module _ {T W E C B : Type 0} (history : T → List E) (right : Option W → T �
           (λ ne. let z : h.1.seats ≡ 0 = bare h.0 h.1 ne h.2 in let sits : 0 < h.1.seats = h.4 in absurd (omega arith))
 
       home : {X : Type 0} (s : State S V) (r : KeepsRule history right o plays topic adds all begun s) → get_elem? s.views id ≡ some v → v.in_turn ≡ false → ((i : ℕ) (u : V) → get_elem? s.views i ≡ some u → u.in_turn ≡ true → ⊥)
-          → ((k : Kept T C B) → s.homes ≡ some (Some k) ∷ [] → history k.value ≡ r.log → right o k.value → X) → X
+          → ((k : InSlot T C B) → s.homes ≡ some (Some k) ∷ [] → history k.value ≡ r.log → right o k.value → X) → X
       home s r at out off go = ⊎_elim (λ h. go h.0 h.1 h.2 h.4) (λ h. absurd (off h.1.0 h.1.1 h.1.2 h.1.3)) r.lies
 
   -- the same, from what the calls before it said
   pub opens_at : (seats all : ℕ) (value first : T) (xs ys : List S) → all ≡ seats → first ≡ value → xs ≡ ys ++ Some record { value = value; last = None } ∷ [] → ys ≡ [] → right o value → ((q j : ℕ) (f : E) → get_elem? (history value) q ≡ some f → topic f ≡ Some j → j ≤ q + 1) → 0 < seats → seats < 4294967296
       → KeepsRule history right o plays topic adds all (history first) (opening (0 ∷ 0 ∷ []) xs (fresh o all (history first)))
   opens_at seats all value first xs ys all_is first_is xs_is ys_is good below some_seat few =
-      let k : Kept T C B = record { value = value; last = None } in
+      let k : InSlot T C B = record { value = value; last = None } in
       let one : xs ≡ Some k ∷ [] = xs_is ∙ ap (λ (l : List S). l ++ Some k ∷ []) ys_is in
       subst (λ (z : ℕ × T × List S). KeepsRule history right o plays topic adds z.0 (history z.1) (opening (0 ∷ 0 ∷ []) z.2 (fresh o z.0 (history z.1))))
       (λ i. (sym all_is i, sym first_is i, sym one i)) (opens seats k good below some_seat few)

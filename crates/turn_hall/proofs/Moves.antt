@@ -10,7 +10,7 @@ use Rattle.atomic_table.proofs.Lists.{at_set, at_snoc, set_here, set_else}
 use Rattle.turn_hall.specs.declared.view.Made.{Made}
 use Rattle.turn_hall.specs.declared.view.View.{View}
 use Rattle.turn_hall.specs.declared.view.Last.{Last}
-use Rattle.turn_hall.specs.declared.view.Kept.{Kept}
+use Rattle.turn_hall.specs.declared.view.InSlot.{InSlot}
 use Rattle.turn_hall.specs.Lists.{one_if}
 use Rattle.turn_hall.specs.Calls.{made_in, mine_after, RisesFrom}
 use Rattle.turn_hall.specs.Views.{waiting, seats_of, adds_at, count_of, is_called, holding, waited, entered, passed_on}
@@ -57,7 +57,7 @@ module _ {T W E C B : Type 0} (history : T → List E) (right : Option W → T �
   V = View W E C B
 
   abbrev S : Type 0
-  S = Option (Kept T C B)
+  S = Option (InSlot T C B)
 
   abbrev St : Type 0
   St = State S V
@@ -165,11 +165,11 @@ module _ {T W E C B : Type 0} (history : T → List E) (right : Option W → T �
 
   -- where a view has the ticket that is served and is not in turn, no other is in turn, so the value is at home
   at_home : (all id : ℕ) (s : St) (r : KeepsRule history right o plays topic adds all begun s) (v : V) → get_elem? s.views id ≡ some v → v.ticket ≡ Some r.serving → v.in_turn ≡ false
-      → (k : Kept T C B) × (s.homes ≡ some (Some k) ∷ []) × (history k.value ≡ r.log) × ((i : ℕ) (u : V) → get_elem? s.views i ≡ some u → u.in_turn ≡ false) × right o k.value
+      → (k : InSlot T C B) × (s.homes ≡ some (Some k) ∷ []) × (history k.value ≡ r.log) × ((i : ℕ) (u : V) → get_elem? s.views i ≡ some u → u.in_turn ≡ false) × right o k.value
   at_home all id s r v at has out = go r.lies
     where
       go : LiesInSlot history (right o) s.homes s.views r.log
-          → (k : Kept T C B) × (s.homes ≡ some (Some k) ∷ []) × (history k.value ≡ r.log) × ((i : ℕ) (u : V) → get_elem? s.views i ≡ some u → u.in_turn ≡ false) × right o k.value
+          → (k : InSlot T C B) × (s.homes ≡ some (Some k) ∷ []) × (history k.value ≡ r.log) × ((i : ℕ) (u : V) → get_elem? s.views i ≡ some u → u.in_turn ≡ false) × right o k.value
       go (inl h) = h
       go (inr h) =
           let i : ℕ = h.1.0 in let u : V = h.1.1 in
@@ -227,7 +227,7 @@ module _ {T W E C B : Type 0} (history : T → List E) (right : Option W → T �
       go true is =
           let has_it : v.ticket ≡ Some n = called n v.ticket is in
           let h = at_home all id s r v at has_it out in
-          let k : Kept T C B = h.0 in
+          let k : InSlot T C B = h.0 in
           let w : V = entered v n (history k.value) in
           let counts = total_set waiting s.views id v w at in
           let shares = total_set seats_of s.views id v w at in
@@ -259,7 +259,7 @@ module _ {T W E C B : Type 0} (history : T → List E) (right : Option W → T �
 
   -- what a look tells where its number is the ticket
   pub look_entered : (ticket n slots : ℕ) (me me' : Me S V) → me.0.ticket ≡ Some ticket → me.1 ≡ [] → (n == ticket) ≡ true → LookTells history right topic adds (step slots 1 0 0 none) me n me'
-      → (k : Kept T C B) × (me' ≡ (entered me.0 ticket (history k.value), (0, Some k) ∷ [])) × IsPrefix me.0.seen (history k.value) × (me.0.turns ≤ ticket) × Apart topic adds (history k.value) me.0 × right me.0.site k.value
+      → (k : InSlot T C B) × (me' ≡ (entered me.0 ticket (history k.value), (0, Some k) ∷ [])) × IsPrefix me.0.seen (history k.value) × (me.0.turns ≤ ticket) × Apart topic adds (history k.value) me.0 × right me.0.site k.value
   look_entered ticket n slots me me' has empty is told =
       let same : n ≡ ticket = grind (arith, nat_tests) in
       let calls : is_called n me.0.ticket ≡ true = ap (is_called n) has ∙ nat_here ticket n (sym same) in
@@ -300,7 +300,7 @@ module _ {T W E C B : Type 0} (history : T → List E) (right : Option W → T �
         let mine = r.each id v at in
         let has : v.ticket ≡ Some n = (mine.turn is).0 in
         let all_seen : v.seen ≡ r.log = (mine.turn is).1 in
-        let k : Kept T C B = carry.0 in
+        let k : InSlot T C B = carry.0 in
         let l : Last C B = carry.1 in
         let log' : List E = history k.value in
         let w : V = passed_on v n log' k.last in

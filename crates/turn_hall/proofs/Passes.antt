@@ -8,7 +8,7 @@ use lib.ListN.{get_elem?}
 use Rattle.atomic_table.specs.Table.{State, Splits, Joins}
 use Rattle.atomic_table.proofs.Lists.{at_snoc, set_here, set_else, at_longer}
 use Rattle.turn_hall.specs.declared.view.View.{View}
-use Rattle.turn_hall.specs.declared.view.Kept.{Kept}
+use Rattle.turn_hall.specs.declared.view.InSlot.{InSlot}
 use Rattle.turn_hall.specs.Lists.{total, count_if, Once, Between}
 use Rattle.turn_hall.specs.Calls.{merged, is_turn, is_entry}
 use Rattle.turn_hall.specs.Views.{waiting, seats_of, calls_of, turns_at, adds_at, count_of, keeping, told_of, joined, blank}
@@ -23,7 +23,7 @@ module _ {T W E C B : Type 0} (history : T → List E) (right : Option W → T �
   V = View W E C B
 
   abbrev S : Type 0
-  S = Option (Kept T C B)
+  S = Option (InSlot T C B)
 
   -- a fact of each view, after one came
   each_more : (P : V → Type 0) (views : List V) (u : V) → P u → ((i : ℕ) (v : V) → get_elem? views i ≡ some v → P v) → (i : ℕ) (w : V) → get_elem? (views ++ u ∷ []) i ≡ some w → P w

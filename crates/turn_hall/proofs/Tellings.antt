@@ -5,7 +5,7 @@ use Rattle.std.specs.declared.snapshot.Snapshot.{Snapshot}
 use Rattle.atomic_table.specs.Table.{Me, rest}
 use Rattle.turn_hall.specs.declared.view.View.{View}
 use Rattle.turn_hall.specs.declared.view.Last.{Last}
-use Rattle.turn_hall.specs.declared.view.Kept.{Kept}
+use Rattle.turn_hall.specs.declared.view.InSlot.{InSlot}
 use Rattle.turn_hall.specs.Lists.{one_if}
 use Rattle.turn_hall.specs.Calls.{made_in}
 use Rattle.turn_hall.specs.Views.{holding, waited, entered, passed_on}
@@ -30,7 +30,7 @@ module _ {T W E C B : Type 0} (history : T → List E) (right : Option W → T �
   V = View W E C B
 
   abbrev K : Type 0
-  K = Kept T C B
+  K = InSlot T C B
 
   abbrev M : Type 0
   M = Me (Option K) V

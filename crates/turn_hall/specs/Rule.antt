@@ -7,7 +7,7 @@ use lib.ListN.{get_elem?}
 use Rattle.atomic_table.specs.Table.{State}
 use Rattle.turn_hall.specs.declared.view.Made.{Made}
 use Rattle.turn_hall.specs.declared.view.View.{View}
-use Rattle.turn_hall.specs.declared.view.Kept.{Kept}
+use Rattle.turn_hall.specs.declared.view.InSlot.{InSlot}
 use Rattle.turn_hall.specs.Lists.{total, Once, Between}
 use Rattle.turn_hall.specs.Calls.{RisesFrom}
 use Rattle.turn_hall.specs.Views.{waiting, seats_of, calls_of, count_of, turns_at, adds_at}
@@ -51,13 +51,13 @@ pub record AreCounted {W E C B : Type 0} (topic : E → Option ℕ) (adds : C �
 
 module _ {T W E C B : Type 0} (history : T → List E) (good : T → Type 0) where
   -- the value is at home with this history, or a view in turn has it
-  abbrev pub LiesInSlot : List (maybe.Option (Option (Kept T C B))) → List (View W E C B) → List E → Type 0
+  abbrev pub LiesInSlot : List (maybe.Option (Option (InSlot T C B))) → List (View W E C B) → List E → Type 0
   LiesInSlot homes views log =
-      ((k : Kept T C B) × (homes ≡ some (Some k) ∷ []) × (history k.value ≡ log) × ((i : ℕ) (v : View W E C B) → get_elem? views i ≡ some v → v.in_turn ≡ false) × good k.value)
+      ((k : InSlot T C B) × (homes ≡ some (Some k) ∷ []) × (history k.value ≡ log) × ((i : ℕ) (v : View W E C B) → get_elem? views i ≡ some v → v.in_turn ≡ false) × good k.value)
       ⊎ ((homes ≡ none ∷ []) × ((i : ℕ) × (v : View W E C B) × (get_elem? views i ≡ some v) × (v.in_turn ≡ true)))
 
 -- The rule, for this number of seats in all and of entries at first
-pub record KeepsRule {T W E C B : Type 0} (history : T → List E) (right : Option W → T → Type 0) (o : Option W) (plays : List E → C → B → List E → Type 0) (topic : E → Option ℕ) (adds : C → B → Bool) (all : ℕ) (begun : List E) (s : State (Option (Kept T C B)) (View W E C B)) : Type 0 where
+pub record KeepsRule {T W E C B : Type 0} (history : T → List E) (right : Option W → T → Type 0) (o : Option W) (plays : List E → C → B → List E → Type 0) (topic : E → Option ℕ) (adds : C → B → Bool) (all : ℕ) (begun : List E) (s : State (Option (InSlot T C B)) (View W E C B)) : Type 0 where
   pub ticket : ℕ
   pub serving : ℕ
   pub log : List E

@@ -12,7 +12,7 @@ use crate::keeps::Keeps;
 use crate::no_memory::NoMemory;
 use crate::room::{Hall, Holder, Pass, Place, Room};
 use crate::steps::{Both, Halve};
-use crate::view::{About, Kept};
+use crate::view::{About, InSlot};
 use crate::waiters::WaitQueues;
 use atomic_table::{Refused, Table};
 use std::alloc::{AllocFailed, Global};
@@ -45,11 +45,11 @@ impl<T: Keeps> Hall<T> {
             first: Snapshot::of(&value),
         };
         let mut slots = Vec::new(alloc);
-        if let Err(failed) = slots.push(Some(Kept { value, last: None })) {
+        if let Err(failed) = slots.push(Some(InSlot { value, last: None })) {
             let AllocFailed { value: slot } = failed;
             slots.destroy_empty();
             let Some(kept) = slot else { unreachable!() };
-            let Kept { value, last: _ } = kept;
+            let InSlot { value, last: _ } = kept;
             return Err((NoMemory, value));
         }
         match Table::new(alloc, &[0, 0], slots, &about) {
@@ -64,7 +64,7 @@ impl<T: Keeps> Hall<T> {
                 };
                 slots.destroy_empty();
                 let Some(kept) = slot else { unreachable!() };
-                let Kept { value, last: _ } = kept;
+                let InSlot { value, last: _ } = kept;
                 Err((NoMemory, value))
             }
         }
@@ -159,7 +159,7 @@ impl<T: Keeps> Hall<T> {
         let slot = closed.take(0);
         closed.free();
         let Some(kept) = slot else { unreachable!() };
-        let Kept { value, last: _ } = kept;
+        let InSlot { value, last: _ } = kept;
         value
     }
 }

@@ -6,14 +6,14 @@ ghost use Rattle.turn_hall.specs.Told.{IsAtRest};
 
 use crate::keeps::Keeps;
 use crate::steps::InTurn;
-use crate::view::{About, Kept, View};
+use crate::view::{About, InSlot, View};
 use crate::waiters::WaitQueues;
 use atomic_table::{Seat, Table, TableRule};
 use std::alloc::Global;
 
 // A seat of a hall that keeps a `T`.
 pub type Place<T> = Seat<
-    Option<Kept<T, <T as Keeps>::Call, <T as Keeps>::Back>>,
+    Option<InSlot<T, <T as Keeps>::Call, <T as Keeps>::Back>>,
     View<<T as Keeps>::Site, <T as Keeps>::Entry, <T as Keeps>::Call, <T as Keeps>::Back>,
 >;
 
@@ -27,7 +27,7 @@ pub struct Room<S, V, K, P: TableRule<S, V, K>> {
 
 /// A lock round one `T`, which threads take in turn.
 pub type Hall<T> = Room<
-    Option<Kept<T, <T as Keeps>::Call, <T as Keeps>::Back>>,
+    Option<InSlot<T, <T as Keeps>::Call, <T as Keeps>::Back>>,
     View<<T as Keeps>::Site, <T as Keeps>::Entry, <T as Keeps>::Call, <T as Keeps>::Back>,
     About<T>,
     InTurn<T>,
@@ -45,7 +45,7 @@ pub struct Holder<S, W, E, C, B> {
 
 /// What a thread takes turns with: its calls, what it has seen, and its seats.
 pub type Pass<T> = Holder<
-    Option<Kept<T, <T as Keeps>::Call, <T as Keeps>::Back>>,
+    Option<InSlot<T, <T as Keeps>::Call, <T as Keeps>::Back>>,
     <T as Keeps>::Site,
     <T as Keeps>::Entry,
     <T as Keeps>::Call,

@@ -5,7 +5,7 @@ ghost use Rattle.turn_hall.specs.Told.{DrawTells, LookTells, PassTells};
 ghost use Rattle.turn_hall.specs.Rule.{IsRightValue, KeepsRule};
 
 use crate::keeps::Keeps;
-use crate::view::{About, Kept, View};
+use crate::view::{About, InSlot, View};
 use atomic_table::{Join, Play, Split, TableRule};
 use std::marker::PhantomData;
 
@@ -15,7 +15,7 @@ pub struct InTurn<T> {
 }
 
 impl<T: Keeps> TableRule<
-    Option<Kept<T, T::Call, T::Back>>,
+    Option<InSlot<T, T::Call, T::Back>>,
     View<T::Site, T::Entry, T::Call, T::Back>,
     About<T>,
 > for InTurn<T> {
@@ -27,7 +27,7 @@ impl<T: Keeps> TableRule<
 // To draw a ticket.
 pub struct Draw;
 
-impl<T, W, E, C, B> Play<Option<Kept<T, C, B>>, View<W, E, C, B>> for Draw {
+impl<T, W, E, C, B> Play<Option<InSlot<T, C, B>>, View<W, E, C, B>> for Draw {
     ghost then = { DrawTells };
 }
 
@@ -36,7 +36,7 @@ pub struct Look<T> {
     kept: PhantomData<T>,
 }
 
-impl<T: Keeps> Play<Option<Kept<T, T::Call, T::Back>>, View<T::Site, T::Entry, T::Call, T::Back>>
+impl<T: Keeps> Play<Option<InSlot<T, T::Call, T::Back>>, View<T::Site, T::Entry, T::Call, T::Back>>
     for Look<T> {
     ghost then = { LookTells T.history (IsRightValue T.site T.legal T.history) T.topic T.adds };
 }
@@ -46,7 +46,7 @@ pub struct PassOn<T> {
     kept: PhantomData<T>,
 }
 
-impl<T: Keeps> Play<Option<Kept<T, T::Call, T::Back>>, View<T::Site, T::Entry, T::Call, T::Back>>
+impl<T: Keeps> Play<Option<InSlot<T, T::Call, T::Back>>, View<T::Site, T::Entry, T::Call, T::Back>>
     for PassOn<T> {
     ghost then = { PassTells T.history };
 }

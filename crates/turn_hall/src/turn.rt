@@ -11,7 +11,7 @@ ghost use Rattle.turn_hall.specs.Rule.{IsRightValue};
 use crate::keeps::Keeps;
 use crate::room::{Hall, Place};
 use crate::steps::{Draw, Look, PassOn};
-use crate::view::{Kept, Last};
+use crate::view::{InSlot, Last};
 use crate::waiters::NEAR;
 use std::snapshot::Snapshot;
 use std::sync::Wait;
@@ -114,7 +114,7 @@ impl<T: Keeps> Hall<T> {
         ensures site { (k : _) → seat.new.me.1 ≡ (0, Some k) ∷ [] → T.site k.value ≡ T.site (first_of self.entry.now) }
     {
         let kept = self.table.shared.exchange(seat, 0, None).unwrap();
-        let Kept { mut value, last: _ } = kept;
+        let InSlot { mut value, last: _ } = kept;
         let before = Snapshot::of(&call);
         let back = value.play(call);
         let after = Snapshot::of(&back);
@@ -125,7 +125,7 @@ impl<T: Keeps> Hall<T> {
         let nothing = self
             .table
             .shared
-            .exchange(seat, 0, Some(Kept { value, last }));
+            .exchange(seat, 0, Some(InSlot { value, last }));
         let None = nothing else { unreachable!() };
         back
     }

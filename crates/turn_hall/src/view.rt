@@ -40,7 +40,7 @@ pub struct Last<C, B> {
 
 // What lies in the slot: the value, and the call that was played on it last.
 #[derive(Drop)]
-pub struct Kept<T, C, B> {
+pub struct InSlot<T, C, B> {
     pub value: T,
     pub last: Option<Last<C, B>>,
 }

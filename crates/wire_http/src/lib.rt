@@ -20,4 +20,4 @@ pub use refusal::WireRefusal;
 pub use reply::{Kind, Reply, error_reply, refusal_reply};
 pub use request::Request;
 pub use rules::longest_body;
-pub use written::write_reply;
+pub use written::{write_head, write_reply};

@@ -1,8 +1,8 @@
 // Replies.
-ghost use Rattle.std.specs.Prelude.{◌≡◌, IfOk, OnOk, ◌++◌, ◌∷◌, []};
+ghost use Rattle.std.specs.Prelude.{◌≡◌, IfOk, OnOk, ◌++◌, ◌∷◌, [], length};
 ghost use Rattle.json.specs.Token.{begin_object, end_object, key, string};
 ghost use Rattle.json.specs.Print.{print};
-ghost use Rattle.wire_http.specs.Reply.{error_tokens, error_body, error_reply, refusal_reply, refusal_status, refusal_text};
+ghost use Rattle.wire_http.specs.Reply.{body_of, reply_content, error_tokens, error_body, error_reply, refusal_reply, refusal_status, refusal_text};
 
 use crate::refusal::WireRefusal;
 use blob::Blob;
@@ -20,6 +20,19 @@ pub enum Kind {
     Json(Text),
     /// `application/octet-stream`: the bytes of a file.
     Bytes(Arc<Blob>),
+}
+
+impl Kind {
+    /// How many bytes the body has. It takes no memory and constant time.
+    pub fn len(&self) -> u64
+        ensures { result ≡ length (reply_content (body_of self.now)) }
+    {
+        match self {
+            Kind::Empty => 0,
+            Kind::Json(text) => text.as_bytes().len() as u64,
+            Kind::Bytes(blob) => blob.sum().len,
+        }
+    }
 }
 
 /// A reply to a request.

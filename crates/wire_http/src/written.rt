@@ -1,5 +1,5 @@
 // The text of a reply.
-ghost use Rattle.std.specs.Prelude.{◌≡◌, ◌++◌, length, IfOk, OnOk};
+ghost use Rattle.std.specs.Prelude.{◌≡◌, ◌++◌, IfOk, OnOk};
 ghost use Rattle.wire_http.specs.Reply.{body_of, reply_view, field_line, status_line, type_lines, length_line, value_lines, close_lines, fields_text, reply_content, reply_text};
 
 use crate::phrases::phrase;
@@ -41,17 +41,6 @@ fn put_type(out: &mut Vec<u8>, kind: &Kind) -> Result<(), NoMemory>
         Kind::Empty => Ok(()),
         Kind::Json(_) => put_field(out, b"Content-Type", b"application/json"),
         Kind::Bytes(_) => put_field(out, b"Content-Type", b"application/octet-stream"),
-    }
-}
-
-// How many bytes the body has.
-fn content_len(kind: &Kind) -> u64
-    ensures { result ≡ length (reply_content (body_of kind.now)) }
-{
-    match kind {
-        Kind::Empty => 0,
-        Kind::Json(text) => text.as_bytes().len() as u64,
-        Kind::Bytes(blob) => blob.sum().len,
     }
 }
 
@@ -110,22 +99,31 @@ fn put_fields(out: &mut Vec<u8>, reply: &Reply) -> Result<(), NoMemory>
     ensures { OnOk result (out.new.items ≡ out.old.items ++ fields_text (reply_view reply.now)) }
 {
     put_type(out, &reply.kind)?;
-    put_length(out, content_len(&reply.kind))?;
+    put_length(out, reply.kind.len())?;
     put_value(out, b"Location", &reply.location)?;
     put_value(out, b"Allow", &reply.allow)?;
     put_close(out, reply.close)
 }
 
-/// The bytes of a reply (RFC 9112, 4 to 6): `HTTP/1.1`, the status code and its phrase; then of `Content-Type`,
-/// `Content-Length` (always), `Location`, `Allow` and `Connection: close`, in this order, those that the reply has;
-/// an empty line and the body. A code that has no phrase has an empty one. NoMemory leaves nothing. Its cost is the length of the text.
-pub fn write_reply(alloc: Global, reply: &Reply) -> Result<Vec<u8>, NoMemory>
-    ensures { IfOk result (λ text. text.items ≡ reply_text reply.now) }
+/// The bytes of a reply up to its body (RFC 9112, 4 to 6): `HTTP/1.1`, the status code and its phrase; then of `Content-Type`,
+/// `Content-Length` (always), `Location`, `Allow` and `Connection: close`, in this order, those that the reply has; and an
+/// empty line. A code that has no phrase has an empty one. The head and behind it the bytes of the body are the text of the
+/// reply. NoMemory leaves nothing. Its cost is the length of the head, however long the body is.
+pub fn write_head(alloc: Global, reply: &Reply) -> Result<Vec<u8>, NoMemory>
+    ensures { IfOk result (λ head. head.items ++ reply_content (body_of reply.now.kind) ≡ reply_text reply.now) }
 {
     let mut out = Vec::with_capacity(alloc, HEAD_ROOM)?;
     put_status(&mut out, reply.code)?;
     put_fields(&mut out, reply)?;
     out.extend_from_slice(b"\r\n")?;
+    Ok(out)
+}
+
+/// The bytes of a reply (RFC 9112, 4 to 6): its head and its body. NoMemory leaves nothing. Its cost is the length of the text.
+pub fn write_reply(alloc: Global, reply: &Reply) -> Result<Vec<u8>, NoMemory>
+    ensures { IfOk result (λ text. text.items ≡ reply_text reply.now) }
+{
+    let mut out = write_head(alloc, reply)?;
     put_content(&mut out, &reply.kind)?;
     Ok(out)
 }

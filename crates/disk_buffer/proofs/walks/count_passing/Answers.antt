@@ -1,6 +1,6 @@
 use Rattle.std.proofs.Common.{◌≡◌, ◌∙◌, ◌+◌, ◌<◌, ◌∷◌, [], ◌&&◌, length, ap, arith}
 use Rattle.std.specs.Prelude.{filter}
-use Rattle.part_values.specs.Held.{prefix_of}
+use Rattle.part_model.specs.Held.{prefix_of}
 use Rattle.sum_trees.specs.Forests.{items_in}
 use Rattle.disk_buffer.specs.declared.row.Row.{Row}
 use Rattle.disk_buffer.specs.Rows.{has_wanted, own_readiness, row_before}

@@ -1,5 +1,5 @@
 use Rattle.std.proofs.Common.{◌≡◌, ◌≤◌, ◌++◌, length}
-use Rattle.part_values.specs.Held.{numbers, prefix_of}
+use Rattle.part_model.specs.Held.{numbers, prefix_of}
 use Rattle.sum_trees.specs.Forests.{items_in}
 use Rattle.disk_buffer.specs.Walks.{ended_by, rest_from}
 use Rattle.disk_buffer.proofs.walks.list_passing.Given as goal

@@ -1,5 +1,5 @@
 use Rattle.std.proofs.Common.{rules, ◌∙◌, ◌≡◌, Some}
-use Rattle.repack_book.specs.Kept.{kept_in, set_in}
+use Rattle.repack_book.specs.NamedRepacks.{kept_in, set_in}
 use Rattle.repack_book.proofs.Rows.{write_row}
 use Rattle.repack_book.proofs.book.set_row.Goals as goal
 

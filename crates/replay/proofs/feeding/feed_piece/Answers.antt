@@ -3,7 +3,7 @@ use Rattle.links.specs.Run.{IsRun}
 use Rattle.links.specs.Standing.{StandFor}
 use Rattle.replay.specs.Seen.{sink_view}
 use Rattle.replay.specs.Run.{answered_on, bare_exchanges, turn_with}
-use Rattle.replay.proofs.ForCallers.{on_ok}
+use Rattle.replay.proofs.RequestReplies.{on_ok}
 use Rattle.replay.proofs.Writing.{events_of-bare, first_none}
 use Rattle.replay.proofs.feeding.feed_piece.Goals as goal
 

@@ -1,7 +1,7 @@
 use Rattle.std.proofs.Common.{◌≡◌, ℕ, List, codes, sym, ◌∙◌, arith}
 use Rattle.cta_site.specs.declared.site.Site.{Site}
-use Rattle.replay.specs.declared.line.Line.{Line}
-use Rattle.replay.specs.declared.line.Line.TheVariants.{Http, Step, End}
+use Rattle.replay.specs.declared.line.ScriptLine.{ScriptLine}
+use Rattle.replay.specs.declared.line.ScriptLine.TheVariants.{Http, Step, End}
 use Rattle.cta_site.specs.Bytes.{Without}
 use Rattle.replay.specs.Line.{text, http_words, step_words, then_word}
 use Rattle.replay.proofs.Parts.{same_words, no_word, differ}
@@ -17,7 +17,7 @@ end_plain : Without 32 (codes "end")
 end_plain = (λ e. omega arith, (λ e. omega arith, (λ e. omega arith, tt)))
 
 -- a line whose first word is neither `http` nor `step` is none of a script's
-no_line : (site : Site) (word words line : List ℕ) → Without 32 word → line ≡ then_word word words → (codes "http" ≡ word → ⊥) → (codes "step" ≡ word → ⊥) → (l : Line) → text site l ≡ line → ⊥
+no_line : (site : Site) (word words line : List ℕ) → Without 32 word → line ≡ then_word word words → (codes "http" ≡ word → ⊥) → (codes "step" ≡ word → ⊥) → (l : ScriptLine) → text site l ≡ line → ⊥
 no_line site word words line plain split no_http no_step (Http l) e = no_http (same_words 32 (codes "http") word (http_words l.link l.moment l.len) words http_plain plain (e ∙ split)).0
 no_line site word words line plain split no_http no_step (Step drive moment) e = no_step (same_words 32 (codes "step") word (step_words site drive moment) words step_plain plain (e ∙ split)).0
 no_line site word words line plain split no_http no_step End e = no_word 32 word words (codes "end") (sym (e ∙ split)) end_plain

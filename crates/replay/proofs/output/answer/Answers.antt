@@ -2,7 +2,7 @@ use Rattle.std.proofs.Common.{◌∷◌, [], ◌∙◌, subst}
 use Rattle.conn.specs.Cut.{Requests}
 use Rattle.replay.specs.Seen.{sink_view}
 use Rattle.replay.specs.RecordTurns.{IsFramed}
-use Rattle.replay.proofs.ForCallers.{on_ok}
+use Rattle.replay.proofs.RequestReplies.{on_ok}
 use Rattle.replay.proofs.Writing.{answers_one, answers_wanting}
 use Rattle.replay.proofs.output.answer.Goals as goal
 

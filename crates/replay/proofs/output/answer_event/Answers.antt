@@ -2,7 +2,7 @@ use Rattle.std.proofs.Common.{None, refl, subst}
 use Rattle.conn.specs.Cut.{Continues, Refuses}
 use Rattle.replay.specs.Seen.{sink_view}
 use Rattle.replay.specs.RecordTurns.{IsFramed}
-use Rattle.replay.proofs.ForCallers.{on_ok}
+use Rattle.replay.proofs.RequestReplies.{on_ok}
 use Rattle.replay.proofs.Writing.{answers_none, answers_one}
 use Rattle.replay.proofs.output.answer_event.Goals as goal
 

@@ -1,5 +1,5 @@
 use Rattle.std.proofs.Common.{rules, ◌≡◌, ℕ, Some, None}
-use Rattle.part_values.specs.Requests.{released_at}
+use Rattle.part_model.specs.Requests.{released_at}
 use Rattle.stage_book.proofs.Requests.{found_in, turn_none, turn_tells}
 use Rattle.stage_book.proofs.book.release_row.Goals as goal
 

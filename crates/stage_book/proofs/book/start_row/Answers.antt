@@ -1,6 +1,6 @@
 use Rattle.std.proofs.Common.{rules, ◌≡◌, ℕ, Some, None}
 use Rattle.cta_model.specs.Stages.{started}
-use Rattle.part_values.specs.Requests.{turned_file}
+use Rattle.part_model.specs.Requests.{turned_file}
 use Rattle.stage_book.proofs.Requests.{found_in, turn_none, turn_tells}
 use Rattle.stage_book.proofs.book.start_row.Goals as goal
 

@@ -1,5 +1,5 @@
 use Rattle.std.proofs.Common.{◌∙◌, length, ap}
-use Rattle.part_values.specs.Held.{prefix_of}
+use Rattle.part_model.specs.Held.{prefix_of}
 use Rattle.sum_trees.specs.Forests.{items_in}
 use Rattle.disk_buffer.specs.Stays.{Arrived, going}
 use Rattle.disk_buffer.proofs.Walked.{going_is}

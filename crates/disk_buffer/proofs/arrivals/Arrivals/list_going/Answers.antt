@@ -1,5 +1,5 @@
 use Rattle.std.proofs.Common.{◌≡◌, ◌∙◌, ◌++◌, length, ap, arith}
-use Rattle.part_values.specs.Held.{numbers, prefix_of}
+use Rattle.part_model.specs.Held.{numbers, prefix_of}
 use Rattle.sum_trees.specs.Forests.{items_in}
 use Rattle.disk_buffer.specs.Stays.{Arrived, going}
 use Rattle.disk_buffer.specs.Walks.{ended_by, sought}

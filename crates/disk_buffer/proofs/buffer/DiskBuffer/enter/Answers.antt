@@ -1,5 +1,5 @@
 use Rattle.std.proofs.Common.{◌≡◌, ◌∙◌, ◌+◌, length, ap, arith}
-use Rattle.part_values.specs.Held.{bytes_of}
+use Rattle.part_model.specs.Held.{bytes_of}
 use Rattle.disk_buffer.specs.Stays.{residents}
 use Rattle.disk_buffer.specs.Stored.{Stored}
 use Rattle.disk_buffer.proofs.Held.{ends_as, ends_last, last_bytes}

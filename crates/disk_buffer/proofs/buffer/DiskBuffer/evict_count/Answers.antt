@@ -1,5 +1,5 @@
 use Rattle.std.proofs.Common.{◌∙◌, ◌-◌, length, ap}
-use Rattle.part_values.specs.Held.{evictable_in, free_in, prefix_of}
+use Rattle.part_model.specs.Held.{evictable_in, free_in, prefix_of}
 use Rattle.disk_buffer.specs.Stored.{Stored}
 use Rattle.disk_buffer.proofs.Held.{evictable_is, numbers_many}
 use Rattle.disk_buffer.proofs.buffer.DiskBuffer.evict_count.Goals as goal

@@ -1,5 +1,5 @@
 use Rattle.std.proofs.Common.{◌∙◌, ap}
-use Rattle.part_values.specs.Held.{bytes_of}
+use Rattle.part_model.specs.Held.{bytes_of}
 use Rattle.disk_buffer.specs.Stored.{Stored}
 use Rattle.disk_buffer.proofs.Held.{evictable_is}
 use Rattle.disk_buffer.proofs.buffer.DiskBuffer.evictable.Goals as goal

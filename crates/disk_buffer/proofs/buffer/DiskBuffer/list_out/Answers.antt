@@ -1,5 +1,5 @@
 use Rattle.std.proofs.Common.{◌≡◌, ◌∙◌, ◌-◌, ◌++◌, length, ap, arith}
-use Rattle.part_values.specs.Held.{evictable_in, evicted_for, free_in, numbers, prefix_of}
+use Rattle.part_model.specs.Held.{evictable_in, evicted_for, free_in, numbers, prefix_of}
 use Rattle.disk_buffer.specs.Stays.{going}
 use Rattle.disk_buffer.specs.Stored.{Stored}
 use Rattle.disk_buffer.proofs.Held.{evictable_is, numbers_many}

@@ -1,5 +1,5 @@
 use Rattle.std.proofs.Common.{◌+◌, ◌∙◌, sym, ap}
-use Rattle.part_values.specs.Room.{Roomed}
+use Rattle.part_model.specs.Room.{Roomed}
 use Rattle.disk_buffer.proofs.PinLists.{ended, end_told, low_is}
 use Rattle.disk_buffer.proofs.pins.Pins.end.Goals as goal
 

@@ -1,5 +1,5 @@
 use Rattle.std.proofs.Common.{◌∙◌, sym, ap}
-use Rattle.part_values.specs.Room.{Roomed}
+use Rattle.part_model.specs.Room.{Roomed}
 use Rattle.sum_trees.specs.Forests.{items_in}
 use Rattle.disk_buffer.proofs.PinLists.{one_pin, same_has, set_again, set_new, set_row_is}
 use Rattle.disk_buffer.proofs.pins.Pins.set.Goals as goal

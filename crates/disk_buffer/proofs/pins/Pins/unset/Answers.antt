@@ -1,5 +1,5 @@
 use Rattle.std.proofs.Common.{ap}
-use Rattle.part_values.specs.Room.{Roomed}
+use Rattle.part_model.specs.Room.{Roomed}
 use Rattle.disk_buffer.proofs.PinLists.{like_is, unset_is}
 use Rattle.disk_buffer.proofs.pins.Pins.unset.Goals as goal
 

@@ -1,7 +1,7 @@
 use Rattle.std.proofs.Common.{◌∙◌, ◌∷◌, [], refl, sym, ap, arith}
 use Rattle.sum_trees.specs.Forests.{items_in}
-use Rattle.part_values.specs.Held.{pins_without}
-use Rattle.part_values.specs.Room.{Roomed}
+use Rattle.part_model.specs.Held.{pins_without}
+use Rattle.part_model.specs.Room.{Roomed}
 use Rattle.disk_buffer.proofs.PinLists.{fewer_pins, one_pin_gone, set_length_one, told_pin, told_no_pin}
 use Rattle.disk_buffer.proofs.pins.Pins.unset_all.Goals as goal
 

@@ -1,6 +1,6 @@
 -- What is left of the other files is what was there of them, and fewer copies are left with each that leaves.
 use Rattle.std.proofs.Common.{◌≡◌, ◌≤◌, Some, length}
-use Rattle.part_values.specs.Failed.{removed_file}
+use Rattle.part_model.specs.Failed.{removed_file}
 use Rattle.failed_copies.proofs.copies.FailedCopies.take_file.Given as goal
 
 abbrev pub invariant-loop-job : goal.invariant-loop-job

@@ -2,8 +2,8 @@ use Rattle.std.proofs.Common.{ap, ◌∙◌, ◌≡◌, length, List}
 use Rattle.std.specs.Prelude.{unwrap_or}
 use Rattle.std.specs.Map.{lookup}
 use Rattle.cta_model.specs.declared.states.Charge.{Charge}
-use Rattle.part_values.specs.Room.{Roomed}
-use Rattle.part_values.specs.JobRows.{JobRows}
+use Rattle.part_model.specs.Room.{Roomed}
+use Rattle.part_model.specs.JobRows.{JobRows}
 use Rattle.job_book.specs.Maps.{Maps, key_of, is_key}
 use Rattle.job_book.proofs.Changes.{charge-tells, charges_is}
 use Rattle.job_book.proofs.Looks.{length-charges_in}

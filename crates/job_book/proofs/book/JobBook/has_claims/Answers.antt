@@ -1,6 +1,6 @@
 use Rattle.std.proofs.Common.{ap, sym, ◌∙◌}
-use Rattle.part_values.specs.Room.{Roomed}
-use Rattle.part_values.specs.JobRows.{JobRows}
+use Rattle.part_model.specs.Room.{Roomed}
+use Rattle.part_model.specs.JobRows.{JobRows}
 use Rattle.job_book.specs.Maps.{Maps}
 use Rattle.job_book.proofs.ClaimedJobs.{claims_none, claims_some}
 use Rattle.job_book.proofs.book.JobBook.has_claims.Goals as goal

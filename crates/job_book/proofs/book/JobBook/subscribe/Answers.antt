@@ -1,6 +1,6 @@
 use Rattle.std.proofs.Common.{rules, ap, arith, ◌+◌, ◌≤◌, ◌≡◌}
-use Rattle.part_values.specs.Room.{Roomed}
-use Rattle.part_values.specs.JobRows.{JobRows}
+use Rattle.part_model.specs.Room.{Roomed}
+use Rattle.part_model.specs.JobRows.{JobRows}
 use Rattle.job_book.specs.Maps.{Maps}
 use Rattle.job_book.proofs.Changes.{subscribe-tells, subscribe_none-tells, places_put, few_places}
 use Rattle.job_book.proofs.book.JobBook.subscribe.Goals as goal

@@ -1,8 +1,8 @@
 use Rattle.std.proofs.Common.{rules, ap, arith, refl, ◌∙◌, sym, ◌≡◌, Some, None}
 use Rattle.std.specs.Prelude.{◌==◌, Bool, if◌then◌else◌}
 use Rattle.std.specs.Map.{lookup}
-use Rattle.part_values.specs.Room.{Roomed}
-use Rattle.part_values.specs.JobRows.{JobRows}
+use Rattle.part_model.specs.Room.{Roomed}
+use Rattle.part_model.specs.JobRows.{JobRows}
 use Rattle.job_book.specs.Maps.{Maps}
 use Rattle.job_book.proofs.Changes.{unsubscribe_none-tells, unsubscribe-tells, unsubscribe_last-tells, places_put, last_is}
 use Rattle.std.proofs.lemmas.Bool.{eq-eqb}

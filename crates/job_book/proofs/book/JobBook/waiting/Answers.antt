@@ -2,8 +2,8 @@ use Rattle.std.proofs.Common.{rules, ap, ◌∙◌, sym, ◌≤◌, ◌≡◌, �
 use Rattle.std.specs.Prelude.{◌==◌, option_map}
 use Rattle.std.specs.Map.{lookup}
 use Rattle.cta_model.specs.RepackItems.{waiting_for}
-use Rattle.part_values.specs.Room.{Roomed}
-use Rattle.part_values.specs.JobRows.{JobRows, recall_in}
+use Rattle.part_model.specs.Room.{Roomed}
+use Rattle.part_model.specs.JobRows.{JobRows, recall_in}
 use Rattle.job_book.specs.Maps.{Maps, waits_at, waiting_in}
 use Rattle.job_book.proofs.Changes.{recall_is}
 use Rattle.job_book.proofs.Looks.{recall_of}

@@ -3,8 +3,8 @@ use Rattle.std.specs.Prelude.{◌==◌, Option, option_map}
 use Rattle.std.specs.Map.{lookup}
 use Rattle.cta_model.specs.Recalls.{Recall}
 use Rattle.cta_model.specs.RepackItems.{waiting_for}
-use Rattle.part_values.specs.Room.{Roomed}
-use Rattle.part_values.specs.JobRows.{JobRows}
+use Rattle.part_model.specs.Room.{Roomed}
+use Rattle.part_model.specs.JobRows.{JobRows}
 use Rattle.job_book.specs.Maps.{Maps}
 use Rattle.job_book.proofs.Changes.{recall_is}
 use Rattle.job_book.proofs.Looks.{recall_of}

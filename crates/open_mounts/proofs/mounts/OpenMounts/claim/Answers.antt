@@ -1,6 +1,6 @@
 use Rattle.std.proofs.Common.{rules, ◌∙◌, sym, ap}
-use Rattle.part_values.specs.Room.{Roomed}
-use Rattle.part_values.specs.Mounts.{claimed}
+use Rattle.part_model.specs.Room.{Roomed}
+use Rattle.part_model.specs.Mounts.{claimed}
 use Rattle.open_mounts.specs.Table.{MountTable}
 use Rattle.open_mounts.proofs.RowCalls.{claim-puts, claim-differ, claimed-none}
 use Rattle.open_mounts.proofs.mounts.OpenMounts.claim.Goals as goal

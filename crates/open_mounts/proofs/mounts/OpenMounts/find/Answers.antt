@@ -1,6 +1,6 @@
 use Rattle.std.proofs.Common.{rules, Bor}
 use Rattle.std.specs.Prelude.{◌==◌}
-use Rattle.part_values.specs.declared.mounts.OpenMount.{OpenMount}
+use Rattle.part_model.specs.declared.mounts.OpenMount.{OpenMount}
 use Rattle.open_mounts.proofs.RowCalls.{some_found}
 use Rattle.open_mounts.proofs.mounts.OpenMounts.find.Goals as goal
 

@@ -1,5 +1,5 @@
 use Rattle.std.proofs.Common.{ap}
-use Rattle.part_values.specs.Room.{Roomed}
+use Rattle.part_model.specs.Room.{Roomed}
 use Rattle.open_mounts.specs.Table.{MountTable}
 use Rattle.open_mounts.proofs.Downs.{raised}
 use Rattle.open_mounts.proofs.mounts.OpenMounts.set_down.Goals as goal

@@ -1,8 +1,8 @@
 use Rattle.std.proofs.Common.{rules, ap, ◌∙◌, ◌≡◌, sym, Some, None}
 use Rattle.std.specs.Prelude.{option_map, ◌==◌, ◌&&◌}
 use Rattle.cta_model.specs.declared.states.RepackCopy.{RepackCopy}
-use Rattle.part_values.specs.Repacks.{has_item_by, is_writing}
-use Rattle.repack_book.specs.Kept.{kept_in}
+use Rattle.part_model.specs.Repacks.{has_item_by, is_writing}
+use Rattle.repack_book.specs.NamedRepacks.{kept_in}
 use Rattle.repack_book.proofs.Books.{repack_is, repack_of}
 use Rattle.repack_book.proofs.book.RepackBook.is_writing.Goals as goal
 

@@ -1,6 +1,6 @@
 use Rattle.std.proofs.Common.{rules, ap, ◌∙◌, ◌≡◌, sym}
 use Rattle.std.specs.Prelude.{is_some}
-use Rattle.repack_book.specs.Kept.{kept_in}
+use Rattle.repack_book.specs.NamedRepacks.{kept_in}
 use Rattle.repack_book.proofs.Books.{repack_is, some_of}
 use Rattle.repack_book.proofs.book.RepackBook.knows.Goals as goal
 

@@ -2,8 +2,8 @@
 use Rattle.std.proofs.Common.{◌-◌, ◌+◌, ℕ}
 use Rattle.std.specs.Prelude.{Option}
 use Rattle.cta_model.specs.History.{has_number}
-use Rattle.part_values.specs.Repacks.{writers_in}
-use Rattle.repack_book.specs.Kept.{repacks_of}
+use Rattle.part_model.specs.Repacks.{writers_in}
+use Rattle.repack_book.specs.NamedRepacks.{repacks_of}
 use Rattle.repack_book.specs.Walks.{IsFirstFrom}
 use Rattle.repack_book.proofs.book.RepackBook.next_writer.Given as goal
 

@@ -2,8 +2,8 @@ use Rattle.std.proofs.Common.{rules, ap, ◌∙◌, ◌≡◌, sym, subst, Some,
 use Rattle.std.specs.Prelude.{Option, option_map}
 use Rattle.cta_model.specs.History.{has_number}
 use Rattle.cta_model.specs.Repacks.{Repack}
-use Rattle.part_values.specs.Repacks.{reading_copies}
-use Rattle.repack_book.specs.Kept.{Kept, kept_in}
+use Rattle.part_model.specs.Repacks.{reading_copies}
+use Rattle.repack_book.specs.NamedRepacks.{NamedRepacks, kept_in}
 use Rattle.repack_book.specs.Walks.{IsFirstFrom}
 use Rattle.repack_book.proofs.Books.{items_of_row, repack_is, repack_of, nothing_read}
 use Rattle.repack_book.proofs.book.RepackBook.reading.Goals as goal
@@ -11,7 +11,7 @@ use Rattle.repack_book.proofs.book.RepackBook.reading.Goals as goal
 pub reading-requires : goal.reading-requires
 reading-requires c =
     let here : kept_in c.args.self.now c.args.id ≡ Some c.in-Some.row.now = search rules in
-    items_of_row c.self.inside.rows.entries c.self.inside.items.value c.self.inside.holders.value c.args.id c.args.file c.in-Some.row.now c.self.invariant (ap (λ (v : Kept). kept_in v c.args.id) c.self.view_is ∙ here)
+    items_of_row c.self.inside.rows.entries c.self.inside.items.value c.self.inside.holders.value c.args.id c.args.file c.in-Some.row.now c.self.invariant (ap (λ (v : NamedRepacks). kept_in v c.args.id) c.self.view_is ∙ here)
 
 pub returns-in-Some : goal.returns-in-Some
 returns-in-Some c =

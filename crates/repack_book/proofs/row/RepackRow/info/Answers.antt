@@ -2,7 +2,7 @@ use Rattle.std.proofs.Common.{◌≡◌, ◌∙◌, ◌≤◌, ◌++◌, ◌∷�
 use Rattle.std.proofs.lemmas.List.{take_all}
 use Rattle.cta_site.specs.Listed.{rows}
 use Rattle.cta_model.specs.declared.reports.RepackItem.{RepackItem}
-use Rattle.repack_book.specs.Kept.{KeptRepack}
+use Rattle.repack_book.specs.NamedRepacks.{KeptRepack}
 use Rattle.repack_book.specs.Reports.{items_told}
 use Rattle.repack_book.proofs.Told.{take_one, told_length}
 use Rattle.repack_book.proofs.row.RepackRow.info.Goals as goal

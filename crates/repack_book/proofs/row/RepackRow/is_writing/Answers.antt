@@ -1,6 +1,6 @@
 use Rattle.std.proofs.Common.{◌∙◌, ◌≡◌, sym, ap, rules, Some, None}
-use Rattle.part_values.specs.Repacks.{is_writing}
-use Rattle.repack_book.specs.Kept.{KeptRepack}
+use Rattle.part_model.specs.Repacks.{is_writing}
+use Rattle.repack_book.specs.NamedRepacks.{KeptRepack}
 use Rattle.repack_book.specs.Live.{has_state}
 use Rattle.repack_book.specs.States.{state_at}
 use Rattle.repack_book.proofs.Rows.{any_known, passes}

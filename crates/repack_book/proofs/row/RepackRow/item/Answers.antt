@@ -1,6 +1,6 @@
 use Rattle.std.proofs.Common.{◌≡◌, subst, sym, Some, ◌<◌, length}
 use Rattle.std.specs.Prelude.{slice_get, slice_index_or}
-use Rattle.repack_book.specs.Kept.{KeptRepack}
+use Rattle.repack_book.specs.NamedRepacks.{KeptRepack}
 use Rattle.repack_book.specs.Reports.{items_told}
 use Rattle.repack_book.proofs.Told.{told_row, no_job}
 use Rattle.repack_book.proofs.row.RepackRow.item.Goals as goal

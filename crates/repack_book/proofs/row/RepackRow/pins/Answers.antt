@@ -1,5 +1,5 @@
 use Rattle.std.proofs.Common.{◌∙◌, ap, subst, ℕ}
-use Rattle.repack_book.specs.Kept.{KeptRepack}
+use Rattle.repack_book.specs.NamedRepacks.{KeptRepack}
 use Rattle.repack_book.specs.Order.{has_item}
 use Rattle.repack_book.specs.Walks.{IsFirstFrom}
 use Rattle.repack_book.proofs.Walks.{pins_tell}

@@ -1,7 +1,7 @@
 use Rattle.std.proofs.Common.{◌∙◌, ◌<◌, arith, ap, sym, subst, ℕ, Some, None}
 use Rattle.cta_model.specs.History.{has_number}
-use Rattle.part_values.specs.Repacks.{reading_copies}
-use Rattle.repack_book.specs.Kept.{KeptRepack}
+use Rattle.part_model.specs.Repacks.{reading_copies}
+use Rattle.repack_book.specs.NamedRepacks.{KeptRepack}
 use Rattle.repack_book.specs.Order.{has_item}
 use Rattle.repack_book.specs.Walks.{IsFirstFrom}
 use Rattle.repack_book.proofs.Rows.{reading_is}

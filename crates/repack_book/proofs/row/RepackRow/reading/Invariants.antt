@@ -2,7 +2,7 @@
 use Rattle.std.proofs.Common.{◌-◌, ℕ, Some}
 use Rattle.std.specs.Prelude.{Option}
 use Rattle.cta_model.specs.History.{has_number}
-use Rattle.part_values.specs.Repacks.{reading_copies}
+use Rattle.part_model.specs.Repacks.{reading_copies}
 use Rattle.repack_book.specs.Walks.{IsFirstFrom}
 use Rattle.repack_book.proofs.row.RepackRow.reading.Given as goal
 

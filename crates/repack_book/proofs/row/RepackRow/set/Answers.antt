@@ -1,7 +1,7 @@
 use Rattle.std.proofs.Common.{◌∙◌, ap, List}
 use Rattle.std.specs.Prelude.{◌==◌, ◌&&◌}
 use Rattle.cta_model.specs.declared.states.RepackCopy.{RepackCopy}
-use Rattle.repack_book.specs.Kept.{set_in}
+use Rattle.repack_book.specs.NamedRepacks.{set_in}
 use Rattle.repack_book.specs.States.{turned_if}
 use Rattle.repack_book.proofs.Rows.{items_turned, known_turned}
 use Rattle.repack_book.proofs.row.RepackRow.set.Goals as goal

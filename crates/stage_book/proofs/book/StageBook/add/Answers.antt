@@ -1,6 +1,6 @@
 use Rattle.std.proofs.Common.{◌∙◌, ap, Some}
 use Rattle.std.specs.Prelude.{if◌then◌else◌, ◌==◌}
-use Rattle.part_values.specs.Requests.{Requests}
+use Rattle.part_model.specs.Requests.{Requests}
 use Rattle.stage_book.proofs.Requests.{add_tells, found_in}
 use Rattle.stage_book.proofs.book.StageBook.add.Goals as goal
 

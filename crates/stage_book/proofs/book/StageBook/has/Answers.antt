@@ -1,5 +1,5 @@
 use Rattle.std.proofs.Common.{rules, ◌∙◌, ◌≡◌, sym, ap, Some, None}
-use Rattle.part_values.specs.Requests.{has_path_by}
+use Rattle.part_model.specs.Requests.{has_path_by}
 use Rattle.stage_book.proofs.Requests.{found_in, request_is}
 use Rattle.stage_book.proofs.book.StageBook.has.Goals as goal
 

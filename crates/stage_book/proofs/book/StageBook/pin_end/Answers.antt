@@ -2,8 +2,8 @@ use Rattle.std.proofs.Common.{rules, ◌∙◌, ◌≡◌, sym, ap, Some, None}
 use Rattle.std.specs.Prelude.{Option, option_map}
 use Rattle.cta_model.specs.Pins.{stage_pins}
 use Rattle.cta_model.specs.Stages.{StageRequest}
-use Rattle.part_values.specs.Held.{kept_end}
-use Rattle.part_values.specs.Requests.{first_end}
+use Rattle.part_model.specs.Held.{kept_end}
+use Rattle.part_model.specs.Requests.{first_end}
 use Rattle.stage_book.proofs.Requests.{found_in, request_is}
 use Rattle.stage_book.proofs.book.StageBook.pin_end.Goals as goal
 

@@ -1,5 +1,5 @@
 use Rattle.std.proofs.Common.{◌∙◌, ap}
-use Rattle.part_values.specs.Requests.{Requests}
+use Rattle.part_model.specs.Requests.{Requests}
 use Rattle.std.proofs.Common.{None}
 use Rattle.std.specs.Prelude.{if◌then◌else◌, ◌==◌}
 use Rattle.stage_book.proofs.Requests.{found_in, remove_tells}

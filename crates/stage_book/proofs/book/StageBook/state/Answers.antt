@@ -3,7 +3,7 @@ use Rattle.std.specs.Prelude.{Option, slice_get}
 use Rattle.cta_model.specs.Stages.{StageRequest}
 use Rattle.stage_book.specs.Reports.{files_of, state_of}
 use Rattle.stage_book.proofs.Requests.{found_in, request_is}
-use Rattle.stage_book.proofs.Told.{beyond}
+use Rattle.stage_book.proofs.Lists.{beyond}
 use Rattle.stage_book.proofs.book.StageBook.state.Goals as goal
 
 pub returns-then-at-count : goal.returns-then-at-count

@@ -6,7 +6,8 @@ use Rattle.cta_model.specs.declared.reports.StageFileInfo.{StageFileInfo}
 use Rattle.cta_model.specs.Reports.{greatest_finish, least_start}
 use Rattle.cta_model.specs.Stages.{StageRequest}
 use Rattle.stage_book.specs.Reports.{file_told, greatest_told, least_told}
-use Rattle.stage_book.proofs.Told.{greatest_is, least_is, length_told, take_one}
+use Rattle.stage_book.proofs.Lists.{length_map, take_one}
+use Rattle.stage_book.proofs.Told.{greatest_is, least_is}
 use Rattle.stage_book.proofs.row.RequestRow.info.Goals as goal
 
 pub loop-at-preserved : goal.loop-at-preserved
@@ -16,7 +17,7 @@ loop-at-preserved c =
 
 pub returns : goal.returns
 returns c =
-    let many : length (map file_told c.args.self.now.files) ≡ length c.args.self.now.files = length_told c.args.self.now.files in
+    let many : length (map file_told c.args.self.now.files) ≡ length c.args.self.now.files = length_map file_told c.args.self.now.files in
     let files : c.loop-at.files.items ≡ map file_told c.args.self.now.files = c.loop-at.invariant ∙ take_all c.loop-at.at (map file_told c.args.self.now.files) (omega arith) in
     let at = ap (λ (r : StageRequest). r.at) c.self.view_is in
     let begun : c.least_start-started_at.result ≡ least_start c.args.self.now.files = c.least_start-started_at.ensures ∙ ap least_told (c.as_slice.ensures.value ∙ files) ∙ least_is c.args.self.now.files in

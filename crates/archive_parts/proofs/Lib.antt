@@ -1,0 +1,4 @@
+pub mod Names
+pub mod Moves
+pub mod Begins
+pub mod Behind

@@ -1,4 +1,0 @@
-pub mod Walks
-pub mod ItemsOf
-mod ReadItems
-mod SourceFseqs

@@ -1,7 +1,0 @@
--- What was taken, with what is still to take, is what is to be taken.
-use Rattle.part_values.specs.Queues.{lines_in}
-use Rattle.batches.proofs.Walks.{IsWalked}
-use Rattle.batches.proofs.taken.taken_jobs.Given as goal
-
-abbrev pub invariant-loop : goal.invariant-loop
-invariant-loop l = IsWalked (lines_in l.queues.value l.key) l.count l.room l.counter l.jobs.items l.last l.bytes

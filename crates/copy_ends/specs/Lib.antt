@@ -1,2 +1,0 @@
-pub mod Unpinned
-pub mod Flags

@@ -1,0 +1,18 @@
+// Out of memory.
+use std::alloc::{AllocError, AllocFailed};
+
+/// Out of memory: an allocation failed. Each call that answers it says what it leaves.
+#[derive(Clone, Copy, Debug, PartialEq, Eq)]
+pub struct NoMemory;
+
+impl From<AllocError> for NoMemory {
+    fn from(_error: AllocError) -> NoMemory {
+        NoMemory
+    }
+}
+
+impl<T: Drop> From<AllocFailed<T>> for NoMemory {
+    fn from(_failed: AllocFailed<T>) -> NoMemory {
+        NoMemory
+    }
+}

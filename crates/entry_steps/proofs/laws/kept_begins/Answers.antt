@@ -1,5 +1,0 @@
-use Rattle.entry_steps.proofs.KeptLaw as law
-use Rattle.entry_steps.proofs.laws.kept_begins.Goals as goal
-
-pub returns : goal.returns
-returns c = law.kept_begins

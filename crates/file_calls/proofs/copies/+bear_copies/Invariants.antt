@@ -1,4 +1,0 @@
-use Rattle.file_calls.proofs.copies.+bear_copies.Given as goal
-
-abbrev pub decreases-bear_copies : goal.decreases-bear_copies
-decreases-bear_copies l = l.copies

@@ -1,4 +1,0 @@
-use Rattle.file_calls.proofs.copies.+queue_copies.Given as goal
-
-abbrev pub decreases-queue_copies : goal.decreases-queue_copies
-decreases-queue_copies l = l.copies

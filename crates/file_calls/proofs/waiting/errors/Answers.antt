@@ -1,8 +1,0 @@
-use Rattle.std.specs.Prelude.{codes}
-use Rattle.file_calls.proofs.Requests.{one_longer}
-use Rattle.file_calls.proofs.waiting.errors.Goals as goal
-
-pub loop-preserved : goal.loop-preserved
-loop-preserved c =
-    let pushed = c.in_ok-push.ensures.items in
-    one_longer (codes "deleted") c.in_ok-text.text c.loop.counter c.loop.texts.items c.push.new.self.items pushed c.in_ok-text.ensures c.loop.invariant.0 c.loop.invariant.1

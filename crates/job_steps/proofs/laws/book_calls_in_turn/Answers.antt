@@ -1,5 +1,0 @@
-use Rattle.job_steps.proofs.TurnLaws as law
-use Rattle.job_steps.proofs.laws.book_calls_in_turn.Goals as goal
-
-pub returns : goal.returns
-returns c = law.book_calls_in_turn

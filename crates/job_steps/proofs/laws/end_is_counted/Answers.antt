@@ -1,5 +1,0 @@
-use Rattle.job_steps.proofs.CountSteps as law
-use Rattle.job_steps.proofs.laws.end_is_counted.Goals as goal
-
-pub returns : goal.returns
-returns c = law.end_is_counted

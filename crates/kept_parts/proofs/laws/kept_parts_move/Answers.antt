@@ -1,5 +1,0 @@
-use Rattle.kept_parts.proofs.Moves as law
-use Rattle.kept_parts.proofs.laws.kept_parts_move.Goals as goal
-
-pub returns : goal.returns
-returns c = law.kept_parts_move

@@ -1,6 +1,0 @@
-use Rattle.std.proofs.Common.{◌∙◌}
-use Rattle.kept_state.proofs.TapesTold.{repack_live_now}
-use Rattle.kept_state.proofs.state.KeptState.has_live_repack.Goals as goal
-
-pub returns : goal.returns
-returns g c = rw (← c.self.view_is) (c.live.ensures ∙ repack_live_now _ _ c.self.inside.parts c.args.tape c.self.invariant.parts)

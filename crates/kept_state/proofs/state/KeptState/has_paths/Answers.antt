@@ -1,6 +1,0 @@
-use Rattle.std.proofs.Common.{◌∙◌}
-use Rattle.kept_state.proofs.Requested.{paths_now}
-use Rattle.kept_state.proofs.state.KeptState.has_paths.Goals as goal
-
-pub returns : goal.returns
-returns g c = rw (← c.self.view_is) (c.has_all.ensures ∙ paths_now _ _ c.self.inside.parts c.args.id c.args.paths.now c.self.invariant.parts)

@@ -1,7 +1,0 @@
-use Rattle.std.proofs.Common.{◌∙◌}
-use Rattle.entry_steps.proofs.ChoiceTold.{tells_mounts}
-use Rattle.kept_parts.specs.Kept.{values_of}
-use Rattle.kept_state.proofs.state.KeptState.is_busy.Goals as goal
-
-pub returns : goal.returns
-returns g c = rw (← c.self.view_is) (c.is_some.ensures ∙ c.of_drive.ensures.there ∙ (tells_mounts _ _ (values_of c.self.inside.parts) c.self.invariant.parts.stand).busy c.args.drive)

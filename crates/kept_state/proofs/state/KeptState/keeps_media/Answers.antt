@@ -1,4 +1,0 @@
-use Rattle.kept_state.proofs.state.KeptState.keeps_media.Goals as goal
-
-pub returns : goal.returns
-returns g c = rw (← c.self.view_is) (record { places = c.self.invariant.places; shelf = c.self.invariant.shelf })

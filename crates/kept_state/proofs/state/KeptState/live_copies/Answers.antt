@@ -1,6 +1,0 @@
-use Rattle.std.proofs.Common.{◌∙◌}
-use Rattle.kept_state.proofs.TapesTold.{copies_now}
-use Rattle.kept_state.proofs.state.KeptState.live_copies.Goals as goal
-
-pub returns : goal.returns
-returns g c = rw (← c.self.view_is) (c.live.ensures ∙ copies_now _ _ c.self.inside.parts c.args.tape c.self.invariant.legal c.self.invariant.parts)

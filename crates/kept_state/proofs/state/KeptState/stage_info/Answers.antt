@@ -1,5 +1,0 @@
-use Rattle.kept_state.proofs.Requested.{report_now, report_ok}
-use Rattle.kept_state.proofs.state.KeptState.stage_info.Goals as goal
-
-pub returns : goal.returns
-returns g c = rw (← c.self.view_is) (report_ok _ _ _ c.tell.ensures (report_now _ _ c.self.inside.parts c.args.id c.self.invariant.parts))

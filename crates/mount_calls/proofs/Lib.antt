@@ -1,8 +1,0 @@
-mod Behind
-mod Stays
-pub mod OpenedMounts
-pub mod EndedMounts
-mod GivenBatches
-mod BatchFacts
-mod ItemLoops
-mod TurnedDrives

@@ -1,8 +1,0 @@
-use Rattle.entry_steps.specs.Choices.{candidate_told}
-use Rattle.next_mount.proofs.Keys.{one_more}
-use Rattle.next_mount.proofs.candidates.add_candidates.Goals as goal
-
-pub loop-key-preserved : goal.loop-key-preserved
-loop-key-preserved c =
-    one_more (candidate_told c.args.site.now c.args.desk.now c.args.at c.args.drive c.args.direction) c.loop-key.key
-    _ _ _ _ c.loop-key.invariant c.candidate_of.ensures c.in_ok-add_candidate.ensures

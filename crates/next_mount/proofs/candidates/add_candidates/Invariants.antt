@@ -1,8 +1,0 @@
--- The candidates of the keys that the loop has passed were added.
-use Rattle.std.proofs.Common.{◌≡◌, ◌++◌}
-use Rattle.std.specs.List.{flat_map, range_with_len}
-use Rattle.entry_steps.specs.Choices.{candidate_told}
-use Rattle.next_mount.proofs.candidates.add_candidates.Given as goal
-
-abbrev pub invariant-loop-key : goal.invariant-loop-key
-invariant-loop-key l = l.list.items ≡ l.initial.list.items ++ flat_map (candidate_told l.site l.desk l.at l.drive l.direction) (range_with_len 0 l.key)

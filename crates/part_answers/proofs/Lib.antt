@@ -1,0 +1,8 @@
+pub mod Orders
+pub mod Firsts
+mod Keys
+pub mod Walks
+pub mod ItemsOf
+mod ReadItems
+mod SourceFseqs
+pub mod Placed

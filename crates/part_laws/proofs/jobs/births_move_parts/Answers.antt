@@ -1,0 +1,5 @@
+use Rattle.part_laws.proofs.StageParts as law
+use Rattle.part_laws.proofs.jobs.births_move_parts.Goals as goal
+
+pub returns : goal.returns
+returns c = law.parts_births

@@ -1,0 +1,5 @@
+use Rattle.part_laws.proofs.TurnLaws as law
+use Rattle.part_laws.proofs.jobs.book_calls_agree.Goals as goal
+
+pub returns : goal.returns
+returns c = law.book_calls_agree

@@ -1,0 +1,5 @@
+use Rattle.part_laws.proofs.PartSteps as law
+use Rattle.part_laws.proofs.jobs.failed_moves_parts.Goals as goal
+
+pub returns : goal.returns
+returns c = law.parts_failed

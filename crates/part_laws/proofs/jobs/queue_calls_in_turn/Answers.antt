@@ -1,0 +1,5 @@
+use Rattle.part_laws.proofs.TurnLaws as law
+use Rattle.part_laws.proofs.jobs.queue_calls_in_turn.Goals as goal
+
+pub returns : goal.returns
+returns c = law.queue_calls_in_turn

@@ -1,0 +1,5 @@
+use Rattle.part_laws.proofs.FailedSteps as law
+use Rattle.part_laws.proofs.queues.failed_move.Goals as goal
+
+pub returns : goal.returns
+returns c = law.failed_move

@@ -1,0 +1,15 @@
+pub mod Marks
+pub mod Writing
+pub mod Unpinning
+pub mod WaitLists
+pub mod AddedLines
+pub mod Sources
+pub mod OncePaths
+pub mod MountRows
+pub mod Charged
+pub mod HeldPins
+pub mod ItemsLeft
+pub mod LastOnes
+pub mod LeftLines
+pub mod NewJobs
+pub mod SameParts

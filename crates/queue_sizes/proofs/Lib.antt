@@ -1,3 +1,0 @@
-mod Distinct
-mod FileSizes
-mod QueueSizes

@@ -1,5 +1,0 @@
-use Rattle.queue_sizes.proofs.FileSizes.{few_copies}
-use Rattle.queue_sizes.proofs.laws.copies_are_few.Goals as goal
-
-pub returns : goal.returns
-returns c = λ site valid path. few_copies site (c.numbers_are_known.ensures.classes site valid) path

@@ -1,5 +1,0 @@
-use Rattle.queue_sizes.proofs.QueueSizes.{lines_are_small}
-use Rattle.queue_sizes.proofs.laws.lines_are_small.Goals as goal
-
-pub returns : goal.returns
-returns c = lines_are_small c.numbers_are_known.ensures.classes c.valid_is_well_formed.ensures

@@ -1,5 +1,0 @@
-use Rattle.read_calls.proofs.ReadFacts.{left_fits}
-use Rattle.read_calls.proofs.giving.set_aside.Goals as goal
-
-pub hold-requires : goal.hold-requires
-hold-requires c = left_fits c.args.buffer.now.held.value c.evict.new.self.held.value c.args.at c.args.bytes c.evict.ensures.held c.requires.fits

@@ -1,6 +1,0 @@
-pub mod FailedWalks
-mod NamedJobs
-mod JobLoops
-mod Behind
-pub mod Retried
-mod RetryCalls

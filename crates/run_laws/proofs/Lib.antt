@@ -1,0 +1,13 @@
+pub mod Due
+pub mod Rows
+pub mod Pairs
+pub mod Replied
+pub mod Stepped
+pub mod MountedTape
+pub mod Shelved
+pub mod Steady
+pub mod Collisions
+pub mod Ends
+pub mod Twins
+pub mod Turns
+pub mod Runs

@@ -1,0 +1,4 @@
+pub mod Changed
+pub mod Texts
+pub mod Told
+pub mod Laws

@@ -1,7 +1,0 @@
--- The paths that the loop has passed are released.
-use Rattle.std.proofs.Common.{take}
-use Rattle.part_values.specs.Requests.{RequestsAgree, release_all}
-use Rattle.stage_calls.proofs.releases.release_all.Given as goal
-
-abbrev pub invariant-loop-path : goal.invariant-loop-path
-invariant-loop-path l = RequestsAgree l.requests (release_all l.id (take l.path-index l.paths) l.initial.requests)

@@ -1,8 +1,0 @@
--- The files that the loop has passed are STARTED.
-use Rattle.std.proofs.Common.{take}
-use Rattle.part_values.specs.Requests.{RequestsAgree, start_all}
-use Rattle.space_steps.specs.BookCalls.{asked_by}
-use Rattle.stage_calls.proofs.statuses.start_all.Given as goal
-
-abbrev pub invariant-loop-file : goal.invariant-loop-file
-invariant-loop-file l = RequestsAgree l.requests (start_all l.at (asked_by l.id (take l.file-index l.files)) l.initial.requests)

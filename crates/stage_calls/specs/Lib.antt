@@ -1,4 +1,0 @@
-pub mod Recalls
-pub mod Wanted
-pub mod Texts
-pub mod Sorted

@@ -1,0 +1,14 @@
+pub mod Reclaims
+pub mod ItemWalks
+pub mod TapeItems
+pub mod FoundLists
+pub mod StateFacts
+pub mod LeftReads
+pub mod LostFiles
+pub mod StateCalls
+pub mod BirthLoops
+pub mod TakenLists
+pub mod RepackFacts
+pub mod RepackCalls
+pub mod TakenFacts
+pub mod RepackDone

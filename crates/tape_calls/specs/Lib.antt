@@ -1,4 +1,0 @@
-pub mod Items
-pub mod Losses
-pub mod Texts
-pub mod Takings

@@ -1,4 +1,0 @@
-use Rattle.tape_files.proofs.places.put_in.Goals as goal
-
-pub returns-clause-places : goal.returns-clause-places
-returns-clause-places c = λ f k. c.in-Ok.ensures.updates.0 (f, k)

@@ -1,5 +1,0 @@
-pub mod Counts
-pub mod Indexed
-pub mod Kept
-pub mod Live
-pub mod Sources
