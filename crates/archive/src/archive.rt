@@ -1,12 +1,13 @@
 // The archive.
-ghost use Rattle.std.specs.Prelude.{◌≡◌, [], IfOk, Some, map};
+ghost use Rattle.std.specs.Prelude.{◌≡◌, ◌+◌, ◌<◌, ◌^◌, [], IfOk, Some, length, map};
 ghost use Rattle.cta_model.specs.Legal.{IsLegal};
+ghost use Rattle.cta_model.specs.Newest.{history_in};
 ghost use Rattle.archive_state.specs.States.{AreFirstMedia, AreShelved};
 ghost use Rattle.cta_laws.specs.Holding.{HoldsLaws};
 
 use archive_state::ArchiveState;
 use cta_laws::legal_histories_hold;
-use cta_model::{NoMemory, Told};
+use cta_model::{Entry, NoMemory, Told};
 use cta_site::ValidSite;
 use std::alloc::Global;
 use std::hash::RandomState;
@@ -50,6 +51,14 @@ impl<M: Told + Drop> Archive<M> {
         ensures { result.now ≡ self.now.site }
     {
         self.state.site()
+    }
+
+    /// The entries of the history, oldest first: the entry of number n, from 1, stands at n - 1. In constant time.
+    pub fn entries(&self) -> &[Entry]
+        ensures history { history_in result.now ≡ self.now.history }
+        ensures few { length result.now + 1 < 2 ^ 32 }
+    {
+        self.state.history.entries()
     }
 
     /// Lets the archive go, with its media. Whoever owns an archive calls it in place of letting it go out of scope: that all of it is

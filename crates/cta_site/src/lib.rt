@@ -9,6 +9,7 @@
 #![tactic(auto)]
 
 mod check;
+mod copies;
 mod faults;
 mod forms;
 mod index;

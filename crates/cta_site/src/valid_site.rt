@@ -6,6 +6,7 @@ ghost use Rattle.cta_site.specs.Lookups.{class_of, copies_of, policy_of, pool_of
 ghost use Rattle.cta_site.specs.ValidSite.{IsValidSite};
 ghost use Rattle.cta_site.specs.WellFormed.{IsWellFormed};
 
+use crate::copies::copy_of;
 use crate::index::Index;
 use crate::lookups::{copies_at, directory_of, number_of, policy_name, route_of};
 use crate::site::{
@@ -48,6 +49,15 @@ impl ValidSite {
     {
         let index = Index::of(alloc, &site)?;
         Ok(ValidSite { site, index })
+    }
+
+    /// The same site once more (this project's own). NoMemory leaves nothing. Its cost is the size of the site's texts, and
+    /// the number of elements times its logarithm.
+    pub fn copy(&self, alloc: Global) -> Result<ValidSite, NoMemory>
+        ensures { IfOk result (λ copy. copy ≡ self.now) }
+    {
+        let site = copy_of(alloc, &self.site)?;
+        ValidSite::of(alloc, site)
     }
 
     /// That the site keeps rules 3 to 30 of a site, with its numbered lists in order, and what follows part by part: a

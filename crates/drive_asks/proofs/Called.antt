@@ -63,7 +63,7 @@ use Rattle.part_moves.proofs.HeldPins.{both_agree, pinned_is, pins_are}
 -- ---- what was done to each part
 
 -- what the calls for a Flushed have done, where b is the book with the claims ended and c the buffer with the flags set
-pub record IsCarriedOut (site : Site) (h : History) (m tape : ℕ) (items : List Item) (fates : List Fate) (live : List Job) (p : ArchiveParts) (tapes : Roomed Table) (b : JobRows) (book : Roomed JobRows) (c buffer : Stored) (repacks : NamedRepacks) : Type 0 where
+pub record HasFlushedParts (site : Site) (h : History) (m tape : ℕ) (items : List Item) (fates : List Fate) (live : List Job) (p : ArchiveParts) (tapes : Roomed Table) (b : JobRows) (book : Roomed JobRows) (c buffer : Stored) (repacks : NamedRepacks) : Type 0 where
   pub told : fates ≡ fates_told p.book.value items
   pub jobs : live ≡ live_jobs p.book.value items
   pub on : tape_of_mount h m ≡ tape
@@ -100,46 +100,46 @@ flag_is site h e v b g legal table book stays live =
 
 -- ---- part by part
 
-put_is : (site : Site) (h : History) (t m tape : ℕ) (items : List Item) (fates : List Fate) (live : List Job) (p : ArchiveParts) (tapes : Roomed Table) (b : JobRows) (book : Roomed JobRows) (c buffer : Stored) (repacks : NamedRepacks) → IsFlush site h t m items → ArePartsKept site h p → IsCarriedOut site h m tape items fates live p tapes b book c buffer repacks
+put_is : (site : Site) (h : History) (t m tape : ℕ) (items : List Item) (fates : List Fate) (live : List Job) (p : ArchiveParts) (tapes : Roomed Table) (b : JobRows) (book : Roomed JobRows) (c buffer : Stored) (repacks : NamedRepacks) → IsFlush site h t m items → ArePartsKept site h p → HasFlushedParts site h m tape items fates live p tapes b book c buffer repacks
     → HaveFlushed (tape_of_mount h m) (zip items fates) p.tapes.value tapes.value
 put_is site h t m tape items fates live p tapes b book c buffer repacks f kept x =
     subst (λ (n : ℕ). HaveFlushed n (zip items fates) p.tapes.value tapes.value) (sym x.on)
     (subst (λ (xs : List (Item × Fate)). HaveFlushed tape xs p.tapes.value tapes.value) (zip_is p.book.value items ∙ ap (λ (fs : List Fate). zip items fs) (sym x.told)) x.put)
 
-table_is : (site : Site) (h : History) (t m tape : ℕ) (items : List Item) (fates : List Fate) (live : List Job) (p : ArchiveParts) (tapes : Roomed Table) (b : JobRows) (book : Roomed JobRows) (c buffer : Stored) (repacks : NamedRepacks) → IsFlush site h t m items → ArePartsKept site h p → IsCarriedOut site h m tape items fates live p tapes b book c buffer repacks
+table_is : (site : Site) (h : History) (t m tape : ℕ) (items : List Item) (fates : List Fate) (live : List Job) (p : ArchiveParts) (tapes : Roomed Table) (b : JobRows) (book : Roomed JobRows) (c buffer : Stored) (repacks : NamedRepacks) → IsFlush site h t m items → ArePartsKept site h p → HasFlushedParts site h m tape items fates live p tapes b book c buffer repacks
     → IsTable site (flush_entry h t m items fates ∷ h) tapes.value
 table_is site h t m tape items fates live p tapes b book c buffer repacks f kept x =
     calls_move_table site h (flush_entry h t m items fates) p.tapes.value tapes.value (f.legal, longer site h t m items fates p f kept x.told) kept.stand.space.tapes (put_is site h t m tape items fates live p tapes b book c buffer repacks f kept x)
 
-books_are : (site : Site) (h : History) (t m tape : ℕ) (items : List Item) (fates : List Fate) (live : List Job) (p : ArchiveParts) (tapes : Roomed Table) (b : JobRows) (book : Roomed JobRows) (c buffer : Stored) (repacks : NamedRepacks) → IsFlush site h t m items → ArePartsKept site h p → IsCarriedOut site h m tape items fates live p tapes b book c buffer repacks
+books_are : (site : Site) (h : History) (t m tape : ℕ) (items : List Item) (fates : List Fate) (live : List Job) (p : ArchiveParts) (tapes : Roomed Table) (b : JobRows) (book : Roomed JobRows) (c buffer : Stored) (repacks : NamedRepacks) → IsFlush site h t m items → ArePartsKept site h p → HasFlushedParts site h m tape items fates live p tapes b book c buffer repacks
     → TellSame (book_in book.value) (end_jobs (filter (is_live_job site h) (item_jobs items)) (give_back_jobs (item_jobs items) (book_in p.book.value)))
 books_are site h t m tape items fates live p tapes b book c buffer repacks f kept x =
     subst (λ (js : List Job). TellSame (book_in book.value) (end_jobs js (give_back_jobs (item_jobs items) (book_in p.book.value)))) (x.jobs ∙ jobs_are site h p.book.value kept.stand.jobs.book items)
     (tell_chain (book_in book.value) (end_jobs live (book_in b)) (end_jobs live (give_back_jobs (item_jobs items) (book_in p.book.value))) x.ended (end_same live (book_in b) (give_back_jobs (item_jobs items) (book_in p.book.value)) x.given))
 
-book_stands : (site : Site) (h : History) (t m tape : ℕ) (items : List Item) (fates : List Fate) (live : List Job) (p : ArchiveParts) (tapes : Roomed Table) (b : JobRows) (book : Roomed JobRows) (c buffer : Stored) (repacks : NamedRepacks) → IsFlush site h t m items → ArePartsKept site h p → IsCarriedOut site h m tape items fates live p tapes b book c buffer repacks
+book_stands : (site : Site) (h : History) (t m tape : ℕ) (items : List Item) (fates : List Fate) (live : List Job) (p : ArchiveParts) (tapes : Roomed Table) (b : JobRows) (book : Roomed JobRows) (c buffer : Stored) (repacks : NamedRepacks) → IsFlush site h t m items → ArePartsKept site h p → HasFlushedParts site h m tape items fates live p tapes b book c buffer repacks
     → IsBook site (flush_entry h t m items fates ∷ h) (book_in book.value)
 book_stands site h t m tape items fates live p tapes b book c buffer repacks f kept x =
     tell_chain (book_in book.value) (end_jobs (filter (is_live_job site h) (item_jobs items)) (give_back_jobs (item_jobs items) (book_in p.book.value))) (book_of site (flush_entry h t m items fates ∷ h)) (books_are site h t m tape items fates live p tapes b book c buffer repacks f kept x)
     (parts_flushed site h (flush_entry h t m items fates) m (rows items) (jobs_in (values_of p)) (f.legal, longer site h t m items fates p f kept x.told) refl kept.stand.jobs).book
 
-done_is : (site : Site) (h : History) (t m tape : ℕ) (items : List Item) (fates : List Fate) (live : List Job) (p : ArchiveParts) (tapes : Roomed Table) (b : JobRows) (book : Roomed JobRows) (c buffer : Stored) (repacks : NamedRepacks) → IsFlush site h t m items → ArePartsKept site h p → IsCarriedOut site h m tape items fates live p tapes b book c buffer repacks
+done_is : (site : Site) (h : History) (t m tape : ℕ) (items : List Item) (fates : List Fate) (live : List Job) (p : ArchiveParts) (tapes : Roomed Table) (b : JobRows) (book : Roomed JobRows) (c buffer : Stored) (repacks : NamedRepacks) → IsFlush site h t m items → ArePartsKept site h p → HasFlushedParts site h m tape items fates live p tapes b book c buffer repacks
     → live ≡ jobs_done (zip items fates)
 done_is site h t m tape items fates live p tapes b book c buffer repacks f kept x = x.jobs ∙ sym (done_are p.book.value items) ∙ ap (λ (fs : List Fate). jobs_done (zip items fs)) (sym x.told)
 
-turned_is : (site : Site) (h : History) (t m tape : ℕ) (items : List Item) (fates : List Fate) (live : List Job) (p : ArchiveParts) (tapes : Roomed Table) (b : JobRows) (book : Roomed JobRows) (c buffer : Stored) (repacks : NamedRepacks) → IsFlush site h t m items → ArePartsKept site h p → IsCarriedOut site h m tape items fates live p tapes b book c buffer repacks
+turned_is : (site : Site) (h : History) (t m tape : ℕ) (items : List Item) (fates : List Fate) (live : List Job) (p : ArchiveParts) (tapes : Roomed Table) (b : JobRows) (book : Roomed JobRows) (c buffer : Stored) (repacks : NamedRepacks) → IsFlush site h t m items → ArePartsKept site h p → HasFlushedParts site h m tape items fates live p tapes b book c buffer repacks
     → RepacksAgree (repacks_of repacks) (set_states item.Done (writers (repacks_of p.repacks) (jobs_done (zip items fates))) (repacks_of p.repacks))
 turned_is site h t m tape items fates live p tapes b book c buffer repacks f kept x =
     subst (λ (js : List Job). RepacksAgree (repacks_of repacks) (set_states item.Done (writers (repacks_of p.repacks) js) (repacks_of p.repacks))) (done_is site h t m tape items fates live p tapes b book c buffer repacks f kept x) x.finished
 
-repacks_stand : (site : Site) (h : History) (t m tape : ℕ) (items : List Item) (fates : List Fate) (live : List Job) (p : ArchiveParts) (tapes : Roomed Table) (b : JobRows) (book : Roomed JobRows) (c buffer : Stored) (repacks : NamedRepacks) → IsFlush site h t m items → ArePartsKept site h p → IsCarriedOut site h m tape items fates live p tapes b book c buffer repacks
+repacks_stand : (site : Site) (h : History) (t m tape : ℕ) (items : List Item) (fates : List Fate) (live : List Job) (p : ArchiveParts) (tapes : Roomed Table) (b : JobRows) (book : Roomed JobRows) (c buffer : Stored) (repacks : NamedRepacks) → IsFlush site h t m items → ArePartsKept site h p → HasFlushedParts site h m tape items fates live p tapes b book c buffer repacks
     → AreRepacks site (flush_entry h t m items fates ∷ h) (repacks_of repacks)
 repacks_stand site h t m tape items fates live p tapes b book c buffer repacks f kept x =
     calls_move_repacks site h (flush_entry h t m items fates) (repacks_of p.repacks) (repacks_of repacks) (f.legal, longer site h t m items fates p f kept x.told) kept.stand.space.repacks (turned_is site h t m tape items fates live p tapes b book c buffer repacks f kept x)
 
 -- ---- the buffer
 
-flags_are_right : (site : Site) (h : History) (t m tape : ℕ) (items : List Item) (fates : List Fate) (live : List Job) (p : ArchiveParts) (tapes : Roomed Table) (b : JobRows) (book : Roomed JobRows) (c buffer : Stored) (repacks : NamedRepacks) → IsFlush site h t m items → ArePartsKept site h p → IsCarriedOut site h m tape items fates live p tapes b book c buffer repacks
+flags_are_right : (site : Site) (h : History) (t m tape : ℕ) (items : List Item) (fates : List Fate) (live : List Job) (p : ArchiveParts) (tapes : Roomed Table) (b : JobRows) (book : Roomed JobRows) (c buffer : Stored) (repacks : NamedRepacks) → IsFlush site h t m items → ArePartsKept site h p → HasFlushedParts site h m tape items fates live p tapes b book c buffer repacks
     → AllOf (λ g. safe_in tapes.value (book_in book.value).archive g (copies_of_file site h g) ≡ is_safe site (flush_entry h t m items fates ∷ h) g) (job_files live)
 flags_are_right site h t m tape items fates live p tapes b book c buffer repacks f kept x =
     subst (λ (js : List Job). AllOf (λ g. safe_in tapes.value (book_in book.value).archive g (copies_of_file site h g) ≡ is_safe site (flush_entry h t m items fates ∷ h) g) (job_files js)) (sym (x.jobs ∙ jobs_are site h p.book.value kept.stand.jobs.book items))
@@ -148,19 +148,19 @@ flags_are_right site h t m tape items fates live p tapes b book c buffer repacks
     (λ j on. flag_is site h (flush_entry h t m items fates) tapes.value book.value j.file (f.legal, longer site h t m items fates p f kept x.told) (table_is site h t m tape items fates live p tapes b book c buffer repacks f kept x) (book_stands site h t m tape items fates live p tapes b book c buffer repacks f kept x) (λ path. refl) (job_file_live site h f.legal j on))
     (all_pass (is_live_job site h) (item_jobs items))))
 
-flags_set : (site : Site) (h : History) (t m tape : ℕ) (items : List Item) (fates : List Fate) (live : List Job) (p : ArchiveParts) (tapes : Roomed Table) (b : JobRows) (book : Roomed JobRows) (c buffer : Stored) (repacks : NamedRepacks) → IsFlush site h t m items → ArePartsKept site h p → IsCarriedOut site h m tape items fates live p tapes b book c buffer repacks
+flags_set : (site : Site) (h : History) (t m tape : ℕ) (items : List Item) (fates : List Fate) (live : List Job) (p : ArchiveParts) (tapes : Roomed Table) (b : JobRows) (book : Roomed JobRows) (c buffer : Stored) (repacks : NamedRepacks) → IsFlush site h t m items → ArePartsKept site h p → HasFlushedParts site h m tape items fates live p tapes b book c buffer repacks
     → HeldAgree c.held.value (set_all (is_safe site (flush_entry h t m items fates ∷ h)) (job_files live) p.buffer.held.value)
 flags_set site h t m tape items fates live p tapes b book c buffer repacks f kept x =
     subst (λ (v : Held). HeldAgree c.held.value v)
     (flags_same (λ g. safe_in tapes.value (book_in book.value).archive g (copies_of_file site h g)) (is_safe site (flush_entry h t m items fates ∷ h)) (job_files live) p.buffer.held.value (flags_are_right site h t m tape items fates live p tapes b book c buffer repacks f kept x))
     x.flags
 
-touched_is : (site : Site) (h : History) (t m tape : ℕ) (items : List Item) (fates : List Fate) (live : List Job) (p : ArchiveParts) (tapes : Roomed Table) (b : JobRows) (book : Roomed JobRows) (c buffer : Stored) (repacks : NamedRepacks) → IsFlush site h t m items → ArePartsKept site h p → IsCarriedOut site h m tape items fates live p tapes b book c buffer repacks
+touched_is : (site : Site) (h : History) (t m tape : ℕ) (items : List Item) (fates : List Fate) (live : List Job) (p : ArchiveParts) (tapes : Roomed Table) (b : JobRows) (book : Roomed JobRows) (c buffer : Stored) (repacks : NamedRepacks) → IsFlush site h t m items → ArePartsKept site h p → HasFlushedParts site h m tape items fates live p tapes b book c buffer repacks
     → AreTouched site h (flush_entry h t m items fates) (job_files live)
 touched_is site h t m tape items fates live p tapes b book c buffer repacks f kept x g =
     ap (λ (js : List Job). has_number g (job_files js)) x.jobs ∙ put_are p.book.value items g ∙ ap (λ (fs : List Fate). list_any (is_put_of g) (zip items fs)) (sym x.told)
 
-unpinned_is : (site : Site) (h : History) (t m tape : ℕ) (items : List Item) (fates : List Fate) (live : List Job) (p : ArchiveParts) (tapes : Roomed Table) (b : JobRows) (book : Roomed JobRows) (c buffer : Stored) (repacks : NamedRepacks) → IsFlush site h t m items → ArePartsKept site h p → (x : IsCarriedOut site h m tape items fates live p tapes b book c buffer repacks)
+unpinned_is : (site : Site) (h : History) (t m tape : ℕ) (items : List Item) (fates : List Fate) (live : List Job) (p : ArchiveParts) (tapes : Roomed Table) (b : JobRows) (book : Roomed JobRows) (c buffer : Stored) (repacks : NamedRepacks) → IsFlush site h t m items → ArePartsKept site h p → (x : HasFlushedParts site h m tape items fates live p tapes b book c buffer repacks)
     → AreUnpinned site h (flush_entry h t m items fates) x.pins.outs
 unpinned_is site h t m tape items fates live p tapes b book c buffer repacks f kept x g id here =
     x.pins.told g id
@@ -170,7 +170,7 @@ unpinned_is site h t m tape items fates live p tapes b book c buffer repacks f k
 -- ---- all parts
 
 -- what was done is what the calls for the entry do
-pub flush_called : (site : Site) (h : History) (t m tape : ℕ) (items : List Item) (fates : List Fate) (live : List Job) (p : ArchiveParts) (tapes : Roomed Table) (b : JobRows) (book : Roomed JobRows) (c buffer : Stored) (repacks : NamedRepacks) → IsFlush site h t m items → ArePartsKept site h p → IsCarriedOut site h m tape items fates live p tapes b book c buffer repacks
+pub flush_called : (site : Site) (h : History) (t m tape : ℕ) (items : List Item) (fates : List Fate) (live : List Job) (p : ArchiveParts) (tapes : Roomed Table) (b : JobRows) (book : Roomed JobRows) (c buffer : Stored) (repacks : NamedRepacks) → IsFlush site h t m items → ArePartsKept site h p → HasFlushedParts site h m tape items fates live p tapes b book c buffer repacks
     → AreKeptCalled site h (flush_entry h t m items fates) p (record p { tapes = tapes; book = book; buffer = buffer; repacks = repacks })
 flush_called site h t m tape items fates live p tapes b book c buffer repacks f kept x = record {
   parts = record {

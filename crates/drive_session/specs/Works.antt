@@ -1,5 +1,5 @@
 -- What `work` and `take` keep.
-use Rattle.std.specs.Prelude.{◌≡◌, Option, Some, None, Result, Ok, Err, true, false}
+use Rattle.std.specs.Prelude.{◌≡◌, Bool, Option, Some, None, Result, Ok, Err, true, false}
 use Rattle.blob.specs.Records.{MediumView}
 use Rattle.cta_values.specs.declared.no_memory.NoMemory.{NoMemory}
 use Rattle.cta_site.specs.declared.site.Site.{Site}
@@ -13,6 +13,8 @@ use Rattle.drive_session.specs.declared.reports.StepLine.{StepLine}
 use Rattle.drive_session.specs.declared.reports.StepLine.TheVariants as line
 use Rattle.drive_session.specs.declared.session.Memo.{Memo}
 use Rattle.drive_session.specs.declared.states.Asked.TheVariants as asked
+use Rattle.drive_session.specs.declared.states.State.{State}
+use Rattle.drive_session.specs.declared.states.State.TheVariants as state
 use Rattle.drive_session.specs.Answers.{is_asking, line_after, state_after}
 use Rattle.drive_session.specs.Steps.{FitsReport, FitsSome, IsStep}
 
@@ -42,3 +44,12 @@ IsWork told old new s s' r = IsWorkBy told old new s s' r s.kept
 abbrev pub IsTaken : {M : Type 0} → Memo M → Memo M → Result (Answer × Hand M) (NoMemory × Ask × Hand M) → StepLine → Type 0
 IsTaken s s' (Err e) l = (l ≡ line.Memory) × (s' ≡ record s { kept = Some (e.1, e.2) })
 IsTaken s s' (Ok b) l = (l ≡ line_after s.asked s.state b.0 b.1) × (s' ≡ record s { state = state_after s.asked s.state b.0 b.1; asked = asked.Nothing l })
+
+-- a session is free where it has no mount, and no ask to repeat
+abbrev pub is_free_by : {M : Type 0} → State M → Option (Ask × Hand M) → Bool
+is_free_by state.Free None = true
+is_free_by _ _ = false
+
+-- whether a session is free
+abbrev pub is_free : {M : Type 0} → Memo M → Bool
+is_free s = is_free_by s.state s.kept

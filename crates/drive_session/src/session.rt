@@ -5,7 +5,7 @@ ghost use Rattle.cta_model.specs.History.{History};
 ghost use Rattle.cta_site.specs.declared.site.Site.{Site};
 ghost use Rattle.drive_session.specs.Answers.{is_asking, is_memory, said};
 ghost use Rattle.drive_session.specs.Steps.{FitsReport, FitsSome, IsStep, is_loaded_in};
-ghost use Rattle.drive_session.specs.Works.{FitsMemo, IsTaken, IsWork, MayWork};
+ghost use Rattle.drive_session.specs.Works.{FitsMemo, IsTaken, IsWork, MayWork, is_free};
 
 use crate::mounts::{claim_step, load_step, next_step, unload_step};
 use crate::reading::read_step;
@@ -123,6 +123,17 @@ impl<D: TapeDrive> Session<D> {
         match self.memo.asked {
             Asked::Nothing(line) => line,
             _ => StepLine::Idle,
+        }
+    }
+
+    /// Whether the session is Free and keeps no ask, so that its drive has no mount and nothing is left to repeat. While an ask is
+    /// open it tells of the state behind it. It takes constant time.
+    pub fn is_free(&self) -> bool
+        ensures { result ≡ is_free self.now }
+    {
+        match self.memo.state {
+            State::Free => self.memo.kept.is_none(),
+            _ => false,
         }
     }
 }

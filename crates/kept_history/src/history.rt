@@ -3,6 +3,7 @@ ghost use Rattle.std.specs.Prelude.{◌≡◌, ◌+◌, ◌<◌, ◌≤◌, ◌^
 ghost use Rattle.cta_model.specs.Bare.{bare_answer, bare_ask, bare_entry};
 ghost use Rattle.cta_model.specs.History.{entry_of, moment_of, next_number, weight_of};
 ghost use Rattle.cta_model.specs.Legal.{actor_of, new_entry};
+ghost use Rattle.cta_model.specs.Newest.{history_in};
 
 use crate::weight::weight_of_entry;
 use cta_model::{Actor, Answer, Ask, Entry, NoMemory, Rows, Who};
@@ -136,5 +137,13 @@ impl KeptHistory {
             return None;
         }
         Some(&entries[number - 1])
+    }
+
+    /// The entries, oldest first, in constant time.
+    pub fn entries(&self) -> &[Entry]
+        ensures history { history_in result.now ≡ self.now.value }
+        ensures few { length result.now + 1 < 2 ^ 32 }
+    {
+        self.entries.as_slice()
     }
 }

@@ -15,8 +15,8 @@ pub struct Counts {
 }
 
 impl Counts {
-    // Nothing is counted.
-    pub(crate) fn new() -> Counts
+    /// Counts of no call. It takes no memory and constant time.
+    pub fn new() -> Counts
         ensures { result ≡ no_counts }
     {
         Counts {
@@ -41,8 +41,8 @@ impl Counts {
         }
     }
 
-    // Counts one more call of this kind.
-    pub(crate) fn raise(&mut self, kind: CallKind)
+    /// Counts one more call of this kind, in constant time.
+    pub fn raise(&mut self, kind: CallKind)
         ensures { self.new ≡ counted kind self.old }
     {
         match kind {

@@ -24,7 +24,7 @@ pub enum DeviceErr {
 /// call changes whether a drive or a medium tells, a medium's label, what a drive plans, or whether it is honest: whether a read
 /// of a safe record gives what was written. Each call is counted, also one that wants memory, and a count of faults never falls. This project's own.
 pub trait TapeDrive {
-    type Medium: Told + Send + Drop;
+    type Medium: Told + Drop;
 
     // Whether the drive is loaded, whether it is honest, how many calls were made, its counts of faults, and its plan where it tells one.
     ghost seen: { Self → DriveView };

@@ -33,102 +33,13 @@ use Rattle.drive_session.specs.Answers.{batch_by, claimed_state, is_asking, is_m
 use Rattle.drive_session.specs.Fits.{FitsAsk, FitsIn, FitsOpen, FitsResolved, FitsState, IsMountAt}
 use Rattle.drive_session.specs.Steps.{is_loaded_in, medium_held, medium_left}
 use Rattle.drive_session.specs.Table.{AnswersLeadByPhase, GoesWith, HeldMount, IsBatchHand, Phase, Free, Held, Leaving, Reading, Ready, Writing, claim_phase, line_by, next_phase, phase_after, phase_of}
+use Rattle.session_laws.proofs.Bares.{open_bare, same_loaded, state_bare}
 use Rattle.session_laws.specs.Laws.{AnsweredSessionFits, AsksAreFit, AsksAreKnown}
 use Rattle.replay.specs.Desk.{HasNoMount, IsAbout, IsAskedOf, IsFree, IsIdleFor}
 use Rattle.replay.specs.Steps.{medium_behind}
 use Rattle.replay.proofs.Freed.{freed}
 
 -- ---- the room in lists
-
-open_bare : {M : Type 0} (told : M → MediumView) (h : History) (d : ℕ) (s : State M) (w : Asked) (k : Ask) (q : Hand M) → FitsAsk told h d s w k q → FitsAsk told h d s w (bare_ask k) q
-open_bare told h d s w (ask.Put who path sum) q f = f
-open_bare told h d s w (ask.Delete who path) q f = f
-open_bare told h d s w (ask.Stage who files) q f = f
-open_bare told h d s w (ask.Cancel who id paths) q f = f
-open_bare told h d s w (ask.DropStage who id) q f = f
-open_bare told h d s w (ask.Release who id paths) q f = f
-open_bare told h d s w (ask.Next n) q f = f
-open_bare told h d s w (ask.Claim m) q f = f
-open_bare told h d s w (ask.Flushed m items) q f = f
-open_bare told h d s w (ask.Recalled m job) q f = f
-open_bare told h d s w (ask.Failed m fault charged returned) q f = f
-open_bare told h d s w (ask.End m fault) q f = f
-open_bare told h d s w (ask.DriveUp who n) q f = f
-open_bare told h d s w (ask.DriveDown who n) q f = f
-open_bare told h d s w (ask.TapeState who v st) q f = f
-open_bare told h d s w (ask.Reclaim who v) q f = f
-open_bare told h d s w (ask.Repack who v) q f = f
-open_bare told h d s w (ask.Retry who paths) q f = f
-
--- a state behind an answer fits where the one behind the answer with no room to spare does
-next_bare : {M : Type 0} (told : M → MediumView) (h : History) (d : ℕ) (a : Answer) (k : Hand M) → FitsIn told h d (next_state (bare_answer a) k) → FitsIn told h d (next_state a k)
-next_bare told h d (answer.Stored evicted) k f = f
-next_bare told h d answer.Done k f = f
-next_bare told h d (answer.Staged id) k f = f
-next_bare told h d (answer.Mounted n way v) k f = f
-next_bare told h d answer.Idle k f = f
-next_bare told h d answer.DriveDown k f = f
-next_bare told h d answer.DriveBusy k f = f
-next_bare told h d (answer.Batch items evicted) k f = f
-next_bare told h d answer.Nothing k f = f
-next_bare told h d (answer.Told fates) k f = f
-next_bare told h d (answer.Arrived fate) k f = f
-next_bare told h d (answer.Repacking id items) k f = f
-next_bare told h d (answer.Retried jobs) k f = f
-next_bare told h d (answer.Bytes sum) k f = f
-next_bare told h d (answer.Stage info) k f = f
-next_bare told h d (answer.Places infos) k f = f
-next_bare told h d (answer.RepackSeen info) k f = f
-next_bare told h d (answer.FailedSeen copies) k f = f
-next_bare told h d (answer.TapeSeen info) k f = f
-next_bare told h d (answer.QueuesSeen infos) k f = f
-next_bare told h d (answer.Refused refused) k f = f
-
-batch_bare : {M : Type 0} (told : M → MediumView) (h : History) (d : ℕ) (way : Direction) (is : List Item) (x : Mounted M) (items items' : Listed Item) (k : Hand M) → items.items ≡ items'.items
-    → FitsIn told h d (batch_by way is x items' k) → FitsIn told h d (batch_by way is x items k)
-batch_bare told h d way [] x items items' k e f = f
-batch_bare told h d direction.Archive (i ∷ is) x items items' hand.Nothing e f = f
-batch_bare told h d direction.Archive (i ∷ is) x items items' (hand.Blob blob) e f = f
-batch_bare told h d direction.Archive (i ∷ is) x items items' (hand.Blobs blobs) e f = rw e f
-batch_bare told h d direction.Archive (i ∷ is) x items items' (hand.Medium y) e f = f
-batch_bare told h d direction.Retrieve (i ∷ is) x items items' k e f = rw e f
-
-claim_bare : {M : Type 0} (told : M → MediumView) (h : History) (d : ℕ) (x : Mounted M) (a : Answer) (k : Hand M) → FitsIn told h d (claimed_state x (bare_answer a) k) → FitsIn told h d (claimed_state x a k)
-claim_bare told h d x (answer.Stored evicted) k f = f
-claim_bare told h d x answer.Done k f = f
-claim_bare told h d x (answer.Staged id) k f = f
-claim_bare told h d x (answer.Mounted n way v) k f = f
-claim_bare told h d x answer.Idle k f = f
-claim_bare told h d x answer.DriveDown k f = f
-claim_bare told h d x answer.DriveBusy k f = f
-claim_bare told h d x (answer.Batch items evicted) k f = batch_bare told h d x.direction items.items x items (rows items.items) k refl f
-claim_bare told h d x answer.Nothing k f = f
-claim_bare told h d x (answer.Told fates) k f = f
-claim_bare told h d x (answer.Arrived fate) k f = f
-claim_bare told h d x (answer.Repacking id items) k f = f
-claim_bare told h d x (answer.Retried jobs) k f = f
-claim_bare told h d x (answer.Bytes sum) k f = f
-claim_bare told h d x (answer.Stage info) k f = f
-claim_bare told h d x (answer.Places infos) k f = f
-claim_bare told h d x (answer.RepackSeen info) k f = f
-claim_bare told h d x (answer.FailedSeen copies) k f = f
-claim_bare told h d x (answer.TapeSeen info) k f = f
-claim_bare told h d x (answer.QueuesSeen infos) k f = f
-claim_bare told h d x (answer.Refused refused) k f = f
-
-state_bare : {M : Type 0} (told : M → MediumView) (h : History) (d : ℕ) (w : Asked) (s : State M) (a : Answer) (k : Hand M) → FitsIn told h d (state_after w s (bare_answer a) k) → FitsIn told h d (state_after w s a k)
-state_bare told h d asked.Next s a k f = next_bare told h d a k f
-state_bare told h d asked.Claim state.Free a k f = f
-state_bare told h d asked.Claim (state.Held x) a k f = f
-state_bare told h d asked.Claim (state.Ready x) a k f = claim_bare told h d x a k f
-state_bare told h d asked.Claim (state.Claimed x items blobs) a k f = f
-state_bare told h d asked.Claim (state.Writing x b) a k f = f
-state_bare told h d asked.Claim (state.Reading x items at) a k f = f
-state_bare told h d asked.Claim (state.Leaving x) a k f = f
-state_bare told h d asked.Flushed s a k f = f
-state_bare told h d (asked.Recalled n) s a k f = f
-state_bare told h d (asked.Known o) s a k f = f
-state_bare told h d (asked.Nothing l) s a k f = f
 
 next_phase-bare : (a : Answer) → next_phase (bare_answer a) ≡ next_phase a
 next_phase-bare (answer.Stored evicted) = refl
@@ -281,85 +192,6 @@ line_by-bare (asked.Recalled s) p (answer.QueuesSeen infos) = refl
 line_by-bare (asked.Recalled s) p (answer.Refused refused) = refl
 line_by-bare (asked.Known o) p a = refl
 line_by-bare (asked.Nothing l) p a = refl
-
--- ---- whether the drive is loaded
-
-next_unloaded : {M : Type 0} (a : Answer) (k : Hand M) → is_loaded_in (next_state a k) ≡ false
-next_unloaded (answer.Stored evicted) k = refl
-next_unloaded answer.Done k = refl
-next_unloaded (answer.Staged id) k = refl
-next_unloaded (answer.Mounted n way v) hand.Nothing = refl
-next_unloaded (answer.Mounted n way v) (hand.Blob blob) = refl
-next_unloaded (answer.Mounted n way v) (hand.Blobs blobs) = refl
-next_unloaded (answer.Mounted n way v) (hand.Medium y) = refl
-next_unloaded answer.Idle k = refl
-next_unloaded answer.DriveDown k = refl
-next_unloaded answer.DriveBusy k = refl
-next_unloaded (answer.Batch items evicted) k = refl
-next_unloaded answer.Nothing k = refl
-next_unloaded (answer.Told fates) k = refl
-next_unloaded (answer.Arrived fate) k = refl
-next_unloaded (answer.Repacking id items) k = refl
-next_unloaded (answer.Retried jobs) k = refl
-next_unloaded (answer.Bytes sum) k = refl
-next_unloaded (answer.Stage info) k = refl
-next_unloaded (answer.Places infos) k = refl
-next_unloaded (answer.RepackSeen info) k = refl
-next_unloaded (answer.FailedSeen copies) k = refl
-next_unloaded (answer.TapeSeen info) k = refl
-next_unloaded (answer.QueuesSeen infos) k = refl
-next_unloaded (answer.Refused refused) k = refl
-
-batch_loaded : {M : Type 0} (way : Direction) (is : List Item) (x : Mounted M) (items : Listed Item) (k : Hand M) → is_loaded_in (batch_by way is x items k) ≡ true
-batch_loaded way [] x items k = refl
-batch_loaded direction.Archive (i ∷ is) x items hand.Nothing = refl
-batch_loaded direction.Archive (i ∷ is) x items (hand.Blob blob) = refl
-batch_loaded direction.Archive (i ∷ is) x items (hand.Blobs blobs) = refl
-batch_loaded direction.Archive (i ∷ is) x items (hand.Medium y) = refl
-batch_loaded direction.Retrieve (i ∷ is) x items k = refl
-
-claim_loaded : {M : Type 0} (x : Mounted M) (a : Answer) (k : Hand M) → is_loaded_in (claimed_state x a k) ≡ true
-claim_loaded x (answer.Stored evicted) k = refl
-claim_loaded x answer.Done k = refl
-claim_loaded x (answer.Staged id) k = refl
-claim_loaded x (answer.Mounted n way v) k = refl
-claim_loaded x answer.Idle k = refl
-claim_loaded x answer.DriveDown k = refl
-claim_loaded x answer.DriveBusy k = refl
-claim_loaded x (answer.Batch items evicted) k = batch_loaded x.direction items.items x items k
-claim_loaded x answer.Nothing k = refl
-claim_loaded x (answer.Told fates) k = refl
-claim_loaded x (answer.Arrived fate) k = refl
-claim_loaded x (answer.Repacking id items) k = refl
-claim_loaded x (answer.Retried jobs) k = refl
-claim_loaded x (answer.Bytes sum) k = refl
-claim_loaded x (answer.Stage info) k = refl
-claim_loaded x (answer.Places infos) k = refl
-claim_loaded x (answer.RepackSeen info) k = refl
-claim_loaded x (answer.FailedSeen copies) k = refl
-claim_loaded x (answer.TapeSeen info) k = refl
-claim_loaded x (answer.QueuesSeen infos) k = refl
-claim_loaded x (answer.Refused refused) k = refl
-
-same_loaded : {M : Type 0} (told : M → MediumView) (h : History) (d : ℕ) (s : State M) (w : Asked) (k : Ask) (q : Hand M) (a : Answer) (out : Hand M) → FitsAsk told h d s w k q → is_loaded_in (state_after w s a out) ≡ is_loaded_in s
-same_loaded told h d s w (ask.Put who path sum) q a out f = absurd f
-same_loaded told h d s w (ask.Delete who path) q a out f = absurd f
-same_loaded told h d s w (ask.Stage who files) q a out f = absurd f
-same_loaded told h d s w (ask.Cancel who id paths) q a out f = absurd f
-same_loaded told h d s w (ask.DropStage who id) q a out f = absurd f
-same_loaded told h d s w (ask.Release who id paths) q a out f = absurd f
-same_loaded told h d s w (ask.Next n) q a out f = rw (f.asked, f.state) (next_unloaded a out)
-same_loaded told h d s w (ask.Claim m) q a out f = rw (f.asked, f.state) (claim_loaded f.mounted a out)
-same_loaded told h d s w (ask.Flushed m items) q a out f = rw f.asked refl
-same_loaded told h d s w (ask.Recalled m job) q a out f = rw f.asked refl
-same_loaded told h d s w (ask.Failed m fault charged returned) q a out f = rw f.asked refl
-same_loaded told h d s w (ask.End m fault) q a out f = rw f.asked refl
-same_loaded told h d s w (ask.DriveUp who n) q a out f = absurd f
-same_loaded told h d s w (ask.DriveDown who n) q a out f = absurd f
-same_loaded told h d s w (ask.TapeState who v st) q a out f = absurd f
-same_loaded told h d s w (ask.Reclaim who v) q a out f = absurd f
-same_loaded told h d s w (ask.Repack who v) q a out f = absurd f
-same_loaded told h d s w (ask.Retry who paths) q a out f = absurd f
 
 -- ---- what goes with an answer
 

@@ -5,3 +5,4 @@ pub mod Sources
 pub mod Claimed
 pub mod Behind
 pub mod Goes
+pub mod Bares

@@ -11,7 +11,7 @@ use Rattle.part_model.specs.JobRows.{book_in}
 use Rattle.part_model.specs.Tapes.{HaveFlushed, row_in, safe_in}
 use Rattle.part_moves.specs.Flags.{job_files}
 use Rattle.drive_asks.specs.Items.{AreOfCopies, with_fates}
-use Rattle.drive_asks.proofs.Called.{IsCarriedOut, flush_called, kept_as, longer}
+use Rattle.drive_asks.proofs.Called.{HasFlushedParts, flush_called, kept_as, longer}
 use Rattle.drive_asks.proofs.Lawful.{IsFlush, are_of_copies, drive_is, entries_fit, entry_is, flush_entry, fseqs_fit, has_row, tape_fits, tape_is}
 use Rattle.drive_asks.proofs.carried.carry_out.Goals as goal
 
@@ -60,7 +60,7 @@ returns-clause-kept c =
     let by = drive_is c.args.site.now c.args.history.now.value c.args.at c.args.mount _ c.args.items.items _ f c.requires.carrying.kept.stand.mounts c.drive_of-drive.ensures in
     let entry = c.push.ensures.value ∙ entry_is c.args.history.now.value c.args.at c.args.mount _ _ c.args.items.items c.args.fates.items c.moment_of-at.ensures by in
     let on = tape_is c.args.site.now c.args.history.now.value c.args.at c.args.mount _ c.args.items.items _ f c.requires.carrying.kept.stand.mounts c.tape_of-tape.ensures in
-    let done : IsCarriedOut c.args.site.now c.args.history.now.value c.args.mount c.tape_of-tape.result c.args.items.items c.args.fates.items c.args.live.now c.args.parts.now c.put_items.new.table c.give_back.new.book.value c.end_jobs.new.book c.set_flags.new.buffer c.end_copies.new.buffer c.end_copies.new.repacks = record {
+    let done : HasFlushedParts c.args.site.now c.args.history.now.value c.args.mount c.tape_of-tape.result c.args.items.items c.args.fates.items c.args.live.now c.args.parts.now c.put_items.new.table c.give_back.new.book.value c.end_jobs.new.book c.set_flags.new.buffer c.end_copies.new.buffer c.end_copies.new.repacks = record {
       told = c.requires.fates;
       jobs = c.requires.live;
       on = on;

@@ -7,7 +7,7 @@ use Rattle.drive_session.proofs.Table.{unbegun_row}
 use Rattle.drive_session.proofs.writing.begin_step.Goals as goal
 
 pub write_step-requires-clause-fits : goal.write_step-requires-clause-fits
-write_step-requires-clause-fits g c = λ κs le. (c.requires.fits.0, (c.requires.fits.1.0, begin_fits g.D.Medium.Told.told c.args.number c.args.x (record { items = c.args.items; blobs = c.args.blobs; at = 0; jobs = c.in-Ok.jobs; one = c.in-Ok.one }) (c.in-Ok.ensures.0 ∙ ap item_jobs c.as_slice.ensures) c.in-Ok.ensures.1 refl c.requires.fits.0 c.requires.fits.1.0 c.requires.fits.1.1))
+write_step-requires-clause-fits g c = (c.requires.fits.0, (c.requires.fits.1.0, begin_fits g.D.Medium.Told.told c.args.number c.args.x (record { items = c.args.items; blobs = c.args.blobs; at = 0; jobs = c.in-Ok.jobs; one = c.in-Ok.one }) (c.in-Ok.ensures.0 ∙ ap item_jobs c.as_slice.ensures) c.in-Ok.ensures.1 refl c.requires.fits.0 c.requires.fits.1.0 c.requires.fits.1.1))
 
 pub returns-in-Ok : goal.returns-in-Ok
 returns-in-Ok g c =

@@ -6,7 +6,7 @@ use Rattle.drive_tests.proofs.Reading.{batch_taken, claim_asked, may_work}
 use Rattle.drive_tests.proofs.mismatch_tests.claims.Goals as goal
 
 pub work-report-requires-clause-fits : goal.work-report-requires-clause-fits
-work-report-requires-clause-fits c = λ κs. may_work c.args.site.now c.args.sum answer.Nothing c.args.session.now c.requires.fits
+work-report-requires-clause-fits c = may_work c.args.site.now c.args.sum answer.Nothing c.args.session.now c.requires.fits
 
 pub returns-then-asked-clause-fits : goal.returns-then-asked-clause-fits
 returns-then-asked-clause-fits c = λ told.

@@ -6,7 +6,7 @@ use Rattle.drive_tests.proofs.Reading.{may_work, step_fits}
 use Rattle.drive_tests.proofs.mismatch_tests.loads.Goals as goal
 
 pub work-report-requires-clause-fits : goal.work-report-requires-clause-fits
-work-report-requires-clause-fits c = λ κs. may_work c.args.site.now c.args.sum answer.Nothing c.args.session.now c.requires.fits
+work-report-requires-clause-fits c = may_work c.args.site.now c.args.sum answer.Nothing c.args.session.now c.requires.fits
 
 pub returns-then-quiet-clause-fits : goal.returns-then-quiet-clause-fits
 returns-then-quiet-clause-fits c = λ told.

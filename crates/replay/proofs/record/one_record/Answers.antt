@@ -30,7 +30,7 @@ returns-in-Some-End-clause-turns g c =
     λ before stand. line_end c.args.front.now.desk.run before _ _ _ (take c.in-Whole.n c.take_line.new.line) l.1 t.0
 
 pub step_record-requires-clause-step : goal.step_record-requires-clause-step
-step_record-requires-clause-step g c κs lives =
+step_record-requires-clause-step g c =
     let l = rw c.site.ensures at (rw c.in-Some-Step.field-0-is at c.in-Some-Step.ensures) in
     l.0
 

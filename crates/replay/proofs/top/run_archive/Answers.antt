@@ -5,10 +5,10 @@ use Rattle.replay.proofs.Starting.{start_links, wanted_before}
 use Rattle.replay.proofs.top.run_archive.Goals as goal
 
 pub run_script-status-requires-clause-ready : goal.run_script-status-requires-clause-ready
-run_script-status-requires-clause-ready g c = λ κs lives. c.in-Ok.ensures.begins.ready
+run_script-status-requires-clause-ready g c = c.in-Ok.ensures.begins.ready
 
 pub run_script-status-requires-clause-links : goal.run_script-status-requires-clause-links
-run_script-status-requires-clause-links g c = λ κs lives. start_links (g.B.Bench.tells c.args.bench.now) c.args.archive.site c.in-Ok.front.desk c.in-Ok.ensures.begins c.in-Ok.front.links (λ link. []) (λ link. []) c.in-Ok.ensures.links
+run_script-status-requires-clause-links g c = start_links (g.B.Bench.tells c.args.bench.now) c.args.archive.site c.in-Ok.front.desk c.in-Ok.ensures.begins c.in-Ok.front.links (λ link. []) (λ link. []) c.in-Ok.ensures.links
 
 pub returns-in-Ok : goal.returns-in-Ok
 returns-in-Ok g c = c.run_script-status.ensures (g.B.Bench.tells c.args.bench.now) c.args.archive.site c.in-Ok.ensures.begins

@@ -15,7 +15,7 @@ index_mut-requires-2 g c =
     subst (λ n. c.args.drive < n) (length-map g.D.TapeDrive.seen c.self.inside.drives.items ∙ sym c.self.inside.drives.ok.0) seen
 
 pub turned-turned-requires-clause-manned : goal.turned-turned-requires-clause-manned
-turned-turned-requires-clause-manned g c κs within =
+turned-turned-requires-clause-manned g c =
     let ms = c.self.inside.sessions.items in
     let ds = c.self.inside.drives.items in
     let vs = map g.D.TapeDrive.seen ds in
