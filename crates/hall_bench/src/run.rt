@@ -11,26 +11,28 @@ use std::thread;
 use std::thread::Threads;
 use turn_hall::{Hall, Keeps, Pass};
 
-// The seats of the hall: halved for each new pass, they are enough for thirty.
+// The seats of the hall: a pass of the fewest splits is split next, so they are enough for 2^31 threads.
 const SEATS: u32 = 1 << 31;
 
-// A job for each thread, with a pass of its own.
+// A job for each thread, with a pass of its own. The first job's pass is split, and both parts go to the back.
 fn jobs_of(
     alloc: Global,
     hall: &Hall<Counter>,
-    mut first: Pass<Counter>,
+    first: Pass<Counter>,
     threads: u32,
 ) -> Result<Vec<Job<Pass<Counter>>>, AllocError>
     requires { IsPassOf (λ c. tt) hall.now first }
     ensures { IfOk result (λ v. All (λ j. IsPassOf (λ c. tt) hall.now j.pass) v.items) }
 {
     let mut jobs = Vec::new(alloc);
-    for _ in 1..threads {
-        if let Some(pass) = hall.split(&mut first) {
-            jobs.push(Job { pass })?;
-        }
-    }
     jobs.push(Job { pass: first })?;
+    for _ in 1..threads {
+        let Job { mut pass } = jobs.remove(0);
+        if let Some(other) = hall.split(&mut pass) {
+            jobs.push(Job { pass: other })?;
+        }
+        jobs.push(Job { pass })?;
+    }
     Ok(jobs)
 }
 

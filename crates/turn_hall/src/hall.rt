@@ -13,11 +13,10 @@ use crate::no_memory::NoMemory;
 use crate::room::{Hall, Holder, Pass, Place, Room};
 use crate::steps::{Both, Halve};
 use crate::view::{About, InSlot};
-use crate::waiters::WaitQueues;
 use atomic_table::{Refused, Table};
 use std::alloc::{AllocFailed, Global};
 use std::snapshot::Snapshot;
-use std::sync::Wait;
+use std::sync::{Mutex, Wait};
 
 impl<T: Keeps> Pass<T> {
     /// The number of seats that the pass holds, from 1. It takes no memory and constant time.
@@ -54,8 +53,8 @@ impl<T: Keeps> Hall<T> {
         }
         match Table::new(alloc, &[0, 0], slots, &about) {
             Ok((table, seat)) => {
-                let queues = WaitQueues::empty();
-                Ok((Room { table, queues }, Holder { seat, seats }))
+                let entry = Mutex::new(());
+                Ok((Room { table, entry }, Holder { seat, seats }))
             }
             Err(refused) => {
                 let Refused { mut slots } = refused;
@@ -153,7 +152,7 @@ impl<T: Keeps> Hall<T> {
         ensures legal { T.legal (T.site (first_of self)) (T.history result) }
         ensures calls { Accounted (T.plays (T.site (first_of self))) T.adds (T.history (first_of self)) (view pass) }
     {
-        let Room { table, queues: _ } = self;
+        let Room { table, entry: _ } = self;
         let Holder { seat, seats: _ } = pass;
         let mut closed = table.close_with(seat);
         let slot = closed.take(0);

@@ -7,9 +7,9 @@ ghost use Rattle.turn_hall.specs.Told.{IsAtRest};
 use crate::keeps::Keeps;
 use crate::steps::InTurn;
 use crate::view::{About, InSlot, View};
-use crate::waiters::WaitQueues;
 use atomic_table::{Seat, Table, TableRule};
 use std::alloc::Global;
+use std::sync::Mutex;
 
 // A seat of a hall that keeps a `T`.
 pub type Place<T> = Seat<
@@ -17,11 +17,13 @@ pub type Place<T> = Seat<
     View<<T as Keeps>::Site, <T as Keeps>::Entry, <T as Keeps>::Call, <T as Keeps>::Back>,
 >;
 
-/// The table of a hall, with two words and one slot, and where its threads park.
+/// The table of a hall, with two words and one slot, and the lock under which tickets are drawn.
 #[derive(Drop)]
 pub struct Room<S, V, K, P: TableRule<S, V, K>> {
     pub(crate) table: Table<S, V, K, P, Global>,
-    pub(crate) queues: WaitQueues,
+    // Held from before a ticket is drawn until its turn is passed on, so that a ticket is drawn by a thread that runs, and is served
+    // at once. A ticket that is drawn before its turn waits for one certain thread, which may sleep. No clause speaks of it.
+    pub(crate) entry: Mutex<()>,
     ghost two: { (table.shared.table_id.words ≡ 2) × (table.shared.table_id.slots ≡ 1) },
 }
 

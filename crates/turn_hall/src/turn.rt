@@ -12,7 +12,6 @@ use crate::keeps::Keeps;
 use crate::room::{Hall, Place};
 use crate::steps::{Draw, Look, PassOn};
 use crate::view::{InSlot, Last};
-use crate::waiters::NEAR;
 use std::snapshot::Snapshot;
 use std::sync::Wait;
 use std::thread;
@@ -59,27 +58,7 @@ impl<T: Keeps> Hall<T> {
         ensures rises { RisesFrom 0 seat.new.me.0.mine }
     {
         T::keeps_laws();
-        self.queues
-            .wake_near(self.table.shared.fetch_add::<PassOn<T>>(seat, SERVING, 1))
-    }
-
-    // Whether more than a few turns come before that of the ticket.
-    fn is_far(&self, ticket: u64) -> bool {
-        ticket.saturating_sub(self.table.shared.peek(SERVING)) > NEAR
-    }
-
-    // Lets other threads go on, and where the turn of the ticket is far, parks until it is near.
-    fn rest<R: Wait>(&self, rt: &R, ticket: u64) {
-        if !self.is_far(ticket) {
-            thread::yield_now();
-            return;
-        }
-        let waiters = self.queues.of(ticket);
-        let wakes = waiters.enter();
-        if self.is_far(ticket) {
-            waiters.park(rt, wakes);
-        }
-        waiters.leave();
+        self.table.shared.fetch_add::<PassOn<T>>(seat, SERVING, 1)
     }
 
     // Waits for the turn, and gives its number.
@@ -99,7 +78,7 @@ impl<T: Keeps> Hall<T> {
             if self.look(seat, ticket) {
                 return ticket;
             }
-            self.rest(rt, ticket);
+            thread::yield_now();
         }
         unreachable!()
     }
@@ -143,9 +122,11 @@ impl<T: Keeps> Hall<T> {
         ensures rises { RisesFrom 0 seat.new.me.0.mine }
     {
         T::keeps_laws();
+        let entry = self.entry.lock(rt);
         self.enter(rt, seat);
         let back = self.play_in_turn(seat, call);
         self.pass_on(seat);
+        drop(entry);
         back
     }
 
