@@ -2,6 +2,8 @@
 #![tactic(auto)]
 
 #[cfg(test)]
+mod file_tests;
+#[cfg(test)]
 mod media_tests;
 #[cfg(test)]
 mod mismatch_tests;

@@ -1,0 +1,5 @@
+pub mod Numbers
+pub mod Dots
+pub mod Writes
+pub mod Untold
+pub mod Marks

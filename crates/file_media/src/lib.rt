@@ -1,0 +1,23 @@
+//! Tape drives and media over the files of a folder: a record is a file of its own, which has its name only once it is whole.
+//! Drives are over any disk, that is any folder with the few operations that they need; the machine's files are one. They
+//! tell nothing of what records hold, count their faults, and leave the records of earlier processes alone.
+#![tactic(auto)]
+
+mod disk;
+mod earlier;
+mod file_bench;
+mod file_drive;
+mod file_medium;
+mod machine_disk;
+mod names;
+mod paths;
+mod records;
+mod tally;
+
+pub use disk::{Disk, DiskErr, DiskFault, FileName};
+pub use earlier::tapes_with_records;
+pub use file_bench::FileBench;
+pub use file_drive::FileDrive;
+pub use file_medium::FileMedium;
+pub use machine_disk::MachineDisk;
+pub use names::names_are_apart;
