@@ -3,6 +3,7 @@ ghost use Rattle.loop_tests.specs.Contents.{length_in, needed, said};
 
 use crate::contents::{Back, Contents, Put};
 use cta_site::NoMemory;
+use link_crew::Callers;
 use link_loop::{Front, Routed, Said};
 use std::alloc::Global;
 use std::sync::Arc;
@@ -53,4 +54,12 @@ impl Front<Contents> for Counter {
     }
 
     fn let_go(_cause: u64) {}
+}
+
+impl Callers<Contents> for Counter {
+    ghost use Rattle.std.specs.Prelude.{true};
+
+    ghost is_callers = { λ k. true };
+
+    fn callers_ask(&self) {}
 }
