@@ -1,0 +1,7 @@
+mod Rows
+mod Others
+mod Behind
+mod Lines
+mod Asking
+mod Taking
+pub mod StepCalls
