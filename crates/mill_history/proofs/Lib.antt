@@ -1,0 +1,5 @@
+pub mod Done
+pub mod Found
+pub mod Numbers
+pub mod Evicted
+pub mod Told
