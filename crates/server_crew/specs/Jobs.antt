@@ -1,5 +1,5 @@
 -- What a worker is given, and what it gives back.
-use Rattle.std.specs.Prelude.{◌≡◌, ℕ, ◌<◌, Bool, false, List, Option, length}
+use Rattle.std.specs.Prelude.{◌≡◌, ℕ, ◌<◌, Bool, true, false, List, Option, length}
 use Rattle.cta_site.specs.declared.site.Site.{Site}
 use Rattle.cta_model.specs.declared.asks.Ask.{Ask}
 use Rattle.cta_model.specs.declared.hands.Hand.{Hand}
@@ -16,7 +16,7 @@ use Rattle.turn_hall.specs.declared.room.Room.{Room}
 use Rattle.turn_hall.specs.declared.room.Holder.{Holder}
 use Rattle.turn_hall.specs.Handles.{IsPassOf, first_of, view}
 use Rattle.link_loop.specs.declared.front.Routed.{Routed}
-use Rattle.drive_turns.specs.Turns.{AreOfSessions}
+use Rattle.drive_turns.specs.Turns.{AreOfSessions, is_of_session}
 use Rattle.link_crew.specs.Accounts.{Accounted}
 use Rattle.link_crew.specs.Seats.{IsSeatOf}
 use Rattle.server_crew.specs.declared.crew.Job.{Job}
@@ -44,3 +44,13 @@ module _ {T S W E C B P L Q A M K : Type 0} (site : T → W) (hall : Room S (Vie
   IsDone (crewed.Links x) =
       IsOnePass site hall x.pass × IsSeatOf pool x.seat × Accounted question is_callers left firm limit needs (view x.pass).mine (links_of (pool_view x.seat).got) x.unserved
   IsDone (crewed.Busy seat) = IsSeatOf full seat
+
+-- what a session asks is nothing that a caller asks
+abbrev pub AreApart : {C K M : Type 0} → (C → K) → (K → Bool) → (ℕ → Ask → Hand M → C) → Type 0
+AreApart {C} {K} {M} question is_callers asking = (at : ℕ) (a : Ask) (k : Hand M) → is_of_session a ≡ true → is_callers (question (asking at a k)) ≡ false
+
+-- how many passes of the hall a worker gives back
+abbrev pub passes_of : {P Q : Type 0} → Crewed P Q → ℕ
+passes_of (crewed.Drive pass) = 1
+passes_of (crewed.Links x) = 1
+passes_of (crewed.Busy seat) = 0

@@ -4,7 +4,9 @@
 
 mod beside;
 mod crew;
+mod gathering;
 mod threads;
 
 pub use crew::{Crewed, Job, Place};
+pub use gathering::gather_crew;
 pub use threads::{Work, run_crew};
