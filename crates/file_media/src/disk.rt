@@ -27,6 +27,11 @@ pub enum DiskErr {
 }
 
 impl From<NoMemory> for DiskErr {
+    ghost use Rattle.std.specs.Prelude.{◌≡◌};
+    ghost use Rattle.file_media.specs.declared.disk.DiskErr.TheVariants.{NoMemory};
+
+    ghost from_gives = { λ _ e. e ≡ NoMemory };
+
     fn from(_error: NoMemory) -> DiskErr {
         DiskErr::NoMemory
     }

@@ -1,5 +1,6 @@
 // Records of earlier processes.
-ghost use Rattle.std.specs.Prelude.{◌≡◌, IfOk, false, length, replicate};
+ghost use Rattle.std.specs.Prelude.{◌≡◌, Err, IfOk, None, false, length, replicate};
+ghost use Rattle.file_media.specs.Disks.{Listed, after_call};
 ghost use Rattle.file_media.specs.Earlier.{HasListed, IsMarkedBy};
 
 use crate::disk::{Disk, DiskErr};
@@ -38,7 +39,8 @@ pub fn tapes_with_records<D: Disk>(
     disk: &mut D,
     site: &ValidSite,
 ) -> Result<Vec<bool>, DiskErr>
-    ensures { IfOk result (HasListed site.now (D.done disk.old) (D.done disk.new)) }
+    ensures listed { IfOk result (HasListed site.now (D.done disk.old) (D.done disk.new)) }
+    ensures cause { result ≡ Err DiskErr.Fault → D.done disk.new ≡ after_call (Listed None) (D.done disk.old) }
 {
     let names = disk.names()?;
     let mut had = unmarked(alloc, site.tapes().len())?;

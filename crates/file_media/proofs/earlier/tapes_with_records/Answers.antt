@@ -11,7 +11,7 @@ loop-name-preserved g c = (
       (c.as_slice.ensures.value ∙ ap (λ (v : Vec ℕ Global). v.items) c.name-item.is) c.loop-name.invariant.1 c.mark.ensures.marks,
 )
 
-pub returns : goal.returns
-returns g c =
+pub returns-clause-listed : goal.returns-clause-listed
+returns-clause-listed g c =
     listed c.args.site.now _ _ c.in_ok-names.names c.deref-name-items.result.now c.loop-name.name-index c.loop-name.had c.deref-name-items.ensures.value c.loop-name-test.false c.in_ok-names.ensures c.loop-name.invariant.0
     c.loop-name.invariant.1
