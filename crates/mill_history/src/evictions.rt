@@ -25,7 +25,7 @@ fn evicted_in(entry: &Entry) -> Option<&[u32]>
 }
 
 // The entry of this number; None exactly where there is none.
-#[tactic(auto, using(cta_model::proofs::Newest::scans, crate::proofs::Numbers::numbers))]
+#[tactic(auto, using(cta_model::proofs::Newest::scans, kept_history::proofs::Numbers::numbers))]
 fn entry_of(entries: &[Entry], number: u32) -> Option<&Entry>
     ensures { option_map bare_entry (option_copied result) ≡ entry_of (history_in entries.now) number }
 {
