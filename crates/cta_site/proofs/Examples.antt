@@ -44,7 +44,7 @@ sorted_from below (x ∷ y ∷ ys) e =
     let rest = sorted_from below (y ∷ ys) parts.1 in
     λ k d low high. one_more below x y ys (false_from_not (below y x) parts.0) rest k d high
 
-by_name : {A : Type 0} (name : A → List ℕ) (xs : List A) → steps_up (λ x y. is_lt (slice_cmp nat_cmp (name x) (name y))) xs ≡ true → IsByName name xs
+pub by_name : {A : Type 0} (name : A → List ℕ) (xs : List A) → steps_up (λ x y. is_lt (slice_cmp nat_cmp (name x) (name y))) xs ≡ true → IsByName name xs
 by_name name xs e = sorted_from (λ x y. is_lt (slice_cmp nat_cmp (name x) (name y))) xs e
 
 small_in_order : IsInOrder small_site

@@ -1,11 +1,8 @@
 -- The site of a mill is valid, and numbered as it stands.
-use Rattle.std.specs.Prelude.{ℕ, zero, suc, ◌≡◌, refl, ◌+◌, ◌<◌, ◌&&◌, Bool, true, false, not, Option, Some, None, List, [], ◌∷◌, length, get_or}
-use Rattle.std.proofs.Common.{arith, ap, subst}
-use Rattle.std.proofs.lemmas.Bool.{and_parts}
+use Rattle.std.specs.Prelude.{ℕ, ◌≡◌, refl, Option, Some, None, List}
+use Rattle.std.proofs.Common.{ap, subst}
 use Rattle.std.proofs.lemmas.List.Sorted.{IsPermutation-refl}
-use Rattle.std.specs.Cmp.Lexicographic.{slice_cmp}
-use Rattle.std.specs.List.Sorted.{IsSorted, IsSortedBy}
-use Rattle.std.specs.Ordering.{is_lt, nat_cmp}
+use Rattle.cta_site.proofs.Examples.{by_name}
 use Rattle.cta_site.specs.declared.check.SiteError.{SiteError}
 use Rattle.cta_site.specs.declared.check.SiteError.TheVariants.{Fault}
 use Rattle.cta_site.specs.declared.site.Site.{Site}
@@ -20,33 +17,6 @@ use Rattle.cta_site.specs.Faults.{first_fault, IsCauseOf}
 use Rattle.cta_site.specs.Numbering.{IsInOrder, IsNumberedFrom}
 use Rattle.cta_site.specs.ValidSite.{IsValidSite}
 use Rattle.load_mill.specs.Sites.{mill_site}
-
--- no item of a list is below the one before it
-abbrev pub steps_up : {A : Type 0} → (A → A → Bool) → List A → Bool
-steps_up below [] = true
-steps_up below (x ∷ []) = true
-steps_up below (x ∷ y ∷ ys) = not (below y x) && steps_up below (y ∷ ys)
-
-false_from_not : (b : Bool) → not b ≡ true → b ≡ false
-false_from_not true e = absurd (cc)
-false_from_not false e = refl
-
-one_more : {A : Type 0} (below : A → A → Bool) (x y : A) (ys : List A) → below y x ≡ false → IsSortedBy below (y ∷ ys) → (k : ℕ) (d : A) → k + 1 < length (x ∷ y ∷ ys) → below (get_or (x ∷ y ∷ ys) (k + 1) d) (get_or (x ∷ y ∷ ys) k d) ≡ false
-one_more below x y ys first rest zero d high = first
-one_more below x y ys first rest (suc k) d high =
-    let next : suc k + 1 ≡ suc (k + 1) = omega arith in
-    rw next (rest k d (omega arith) (omega arith))
-
-sorted_from : {A : Type 0} (below : A → A → Bool) (xs : List A) → steps_up below xs ≡ true → IsSortedBy below xs
-sorted_from below [] e = λ k d low high. absurd (omega arith)
-sorted_from below (x ∷ []) e = λ k d low high. absurd (omega arith)
-sorted_from below (x ∷ y ∷ ys) e =
-    let parts = and_parts (not (below y x)) (steps_up below (y ∷ ys)) e in
-    let rest = sorted_from below (y ∷ ys) parts.1 in
-    λ k d low high. one_more below x y ys (false_from_not (below y x) parts.0) rest k d high
-
-by_name : {A : Type 0} (name : A → List ℕ) (xs : List A) → steps_up (λ x y. is_lt (slice_cmp nat_cmp (name x) (name y))) xs ≡ true → IsSorted (λ x y. slice_cmp nat_cmp (name x) (name y)) xs
-by_name name xs e = sorted_from (λ x y. is_lt (slice_cmp nat_cmp (name x) (name y))) xs e
 
 in_order : IsInOrder mill_site
 in_order = record {
