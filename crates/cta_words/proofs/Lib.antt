@@ -2,3 +2,5 @@ mod Turns
 mod Leaves
 mod Lines
 mod Answered
+mod Spelled
+mod Served

@@ -1,3 +1,5 @@
 pub mod Words
 pub mod Commands
 pub mod Found
+pub mod Numbers
+pub mod Serving

@@ -2,7 +2,7 @@
 use crate::session_tests::site_of;
 use blob::{Blob, Sum256, sum_of};
 use cta_site::{Text, ValidSite};
-use file_media::{DiskErr, FileBench, FileDrive, FileMedium, MachineDisk};
+use file_media::{FileBench, FileDrive, FileMedium, MachineDisk};
 use media::{Bench, DeviceErr, TapeDrive};
 use std::alloc::Global;
 use std::fs::{File, OpenFile};
@@ -24,46 +24,22 @@ fn content(alloc: Global, bytes: &[u8]) -> Option<Arc<Blob>> {
     Arc::new(alloc, blob).ok()
 }
 
-fn bench_over<'r, R: Files>(
-    alloc: Global,
-    rt: &'r R,
-    folder: &str,
-    site: &ValidSite,
-) -> Result<FileBench<'r, R>, DiskErr> {
-    match text(alloc, folder) {
-        Some(folder) => FileBench::new(alloc, rt, folder, site),
-        None => Err(DiskErr::NoMemory),
-    }
-}
-
-// The medium of the first tape, and whether the folder held records of it.
-fn medium_of<R: Files>(
-    bench: &mut FileBench<'_, R>,
-    site: &ValidSite,
-) -> Option<(FileMedium, bool)> {
-    if site.tapes().is_empty() {
-        return None;
-    }
-    let had = bench.had_records(0);
-    match bench.medium(site, 0) {
-        Ok(medium) => Some((medium, had)),
-        Err(_) => None,
-    }
-}
-
-// The medium of a new bench over a folder.
+// The medium of the first tape, by a new bench over a folder, and whether the folder held records of it.
 fn medium_at<R: Files>(
     alloc: Global,
     rt: &R,
     folder: &str,
     site: &ValidSite,
 ) -> Option<(FileMedium, bool)> {
-    match bench_over(alloc, rt, folder, site) {
-        Ok(mut bench) => {
-            let made = medium_of(&mut bench, site);
-            drop(bench);
-            made
-        }
+    if site.tapes().is_empty() {
+        return None;
+    }
+    let mut bench = FileBench::new(alloc, rt, text(alloc, folder)?);
+    let made = bench.medium(site, 0);
+    let had = bench.had_records(0);
+    drop(bench);
+    match made {
+        Ok(medium) => Some((medium, had)),
         Err(_) => None,
     }
 }
@@ -210,31 +186,56 @@ fn records_are_read_back(rt: HostRuntime) -> Result<(), Fail> {
     Ok(())
 }
 
-// Whether a bench over a folder that is not there is refused.
-fn is_refused<R: Files>(alloc: Global, rt: &R, site: &ValidSite) -> bool {
-    match bench_over(alloc, rt, "./none", site) {
-        Ok(bench) => {
-            drop(bench);
-            false
-        }
-        Err(error) => error == DiskErr::Fault,
-    }
-}
-
+// Each tape of a folder that can't be listed counts as one with records, and no drive loads its medium, as here one over another folder.
 #[test]
 fn missing_folder_is_a_fault(rt: HostRuntime) -> Result<(), Fail> {
     let alloc = rt.alloc();
-    let site = site_of(alloc).ok_or("no site")?;
-    let refused = is_refused(alloc, &rt, &site);
-    drop(site);
+    let (mut hidden, held) = new_medium(alloc, &rt, "./none").ok_or("no medium")?;
     let (mut medium, _) = new_medium(alloc, &rt, ".").ok_or("no medium")?;
+    let mut here = new_drive(alloc, &rt, ".").ok_or("no drive")?;
     let mut drive = new_drive(alloc, &rt, "./none").ok_or("no drive")?;
+    let refused = here.load(&mut hidden);
     let load = drive.load(&mut medium);
     let write = write_at(alloc, &mut drive, &mut medium, 1, b"hello");
     let flush = drive.flush(&mut medium);
+    drop(here);
     drop(drive);
+    drop(hidden);
     drop(medium);
-    assert!(rt; refused && [load, write, flush] == [Err(DeviceErr::Fault); 3]);
+    assert!(rt; held && [refused, load, write, flush] == [Err(DeviceErr::Fault); 4]);
+    Ok(())
+}
+
+// The marks of a bench before its first medium, and after it.
+fn marks_of_bench<R: Files>(
+    alloc: Global,
+    rt: &R,
+    folder: &str,
+    site: &ValidSite,
+) -> Option<[bool; 3]> {
+    if site.tapes().is_empty() {
+        return None;
+    }
+    let mut bench = FileBench::new(alloc, rt, text(alloc, folder)?);
+    let before = bench.had_records(0);
+    let made = bench.medium(site, 0).is_ok();
+    let after = bench.had_records(0);
+    drop(bench);
+    Some([before, made, after])
+}
+
+#[test]
+fn bench_lists_at_its_first_medium(rt: HostRuntime) -> Result<(), Fail> {
+    let alloc = rt.alloc();
+    clear(
+        &rt,
+        "records-none",
+        ["records-none/V1.1", "records-none/V1.2"],
+    );
+    let site = site_of(alloc).ok_or("no site")?;
+    let told = marks_of_bench(alloc, &rt, "records-none", &site);
+    drop(site);
+    assert_eq!(rt; told, Some([true, true, false]));
     Ok(())
 }
 

@@ -2,6 +2,8 @@
 #![tactic(auto)]
 
 #[cfg(test)]
+mod closing_tests;
+#[cfg(test)]
 mod link_tests;
 #[cfg(test)]
 mod machine_tests;
@@ -9,6 +11,8 @@ mod machine_tests;
 mod memory_tests;
 #[cfg(test)]
 mod site_tests;
+#[cfg(test)]
+mod stand_in_tests;
 #[cfg(test)]
 mod valid_site_tests;
 #[cfg(test)]

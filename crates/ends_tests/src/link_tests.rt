@@ -5,7 +5,9 @@ use outside::{
 };
 use std::alloc::{AllocError, Global};
 use std::net::{Net, TcpListener, TcpStream};
+use std::sync::Wait;
 use std::test::Fail;
+use std::time;
 use std::time::Duration;
 
 // A link with these bytes left, of which the second read and the first write fail.
@@ -78,13 +80,13 @@ fn clocks_and_gates(rt: HostRuntime) {
 }
 
 // Both ends of a connection over the machine's own address, None where the machine refuses one.
-fn tcp_links<R: Net<Listener = TcpListener, Stream = TcpStream>>(
-    rt: &R,
-) -> Option<(TcpLink, TcpLink)> {
+fn tcp_links<'a, R: Net<Listener = TcpListener, Stream = TcpStream> + time::Clock + Wait + Sync>(
+    rt: &'a R,
+) -> Option<(TcpLink<'a, R>, TcpLink<'a, R>)> {
     let mut door = TcpDoor::open(rt, "127.0.0.1:0", Duration::from_secs(5));
     let address = door.address()?;
     let stream = TcpStream::connect(rt, address).ok()?;
-    let client = TcpLink::over(stream, Duration::from_millis(50));
+    let client = TcpLink::over(rt, stream, Duration::from_millis(50));
     match door.next() {
         Ok(Some(link)) => Some((client, link)),
         _ => None,
@@ -92,9 +94,9 @@ fn tcp_links<R: Net<Listener = TcpListener, Stream = TcpStream>>(
 }
 
 // What is given as four bytes go to the link and five come back, and then by a read that waits too long.
-fn exchanged(
-    client: &mut TcpLink,
-    link: &mut TcpLink,
+fn exchanged<R: time::Clock>(
+    client: &mut TcpLink<'_, R>,
+    link: &mut TcpLink<'_, R>,
 ) -> ([Result<(), Failed>; 2], [Result<usize, Failed>; 3], [u8; 8]) {
     let mut to = [0u8; 8];
     let ping = client.write_all_of(b"ping");

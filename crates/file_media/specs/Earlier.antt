@@ -1,5 +1,5 @@
 -- Which tapes have records in a folder.
-use Rattle.std.specs.Prelude.{ℕ, ◌≡◌, ◌<◌, ◌≤◌, ◌⊎◌, List, length, Bool, true, Option, Some, slice_get, Vec, Contains, ◌↔◌}
+use Rattle.std.specs.Prelude.{ℕ, ◌≡◌, ◌<◌, ◌≤◌, ◌⊎◌, List, [], length, Bool, true, Option, Some, None, slice_get, Vec, Contains, ◌↔◌}
 use Rattle.std.specs.declared.alloc.Global.{Global}
 use Rattle.cta_site.specs.declared.site.Site.{Site}
 use Rattle.cta_site.specs.Lookups.{vid_of}
@@ -28,3 +28,7 @@ pub record HasListed (site : Site) (old new : Option (List DiskCall)) (had : Vec
   pub done : new ≡ after_call (Listed (Some names)) old
   pub len : length had.items ≡ length site.tapes.items
   pub marked : (tape : ℕ) → tape < length site.tapes.items → IsMarked had.items tape ↔ HoldRecord names (vid_of site tape)
+
+-- the folder was listed as above, or its listing failed and there is no mark
+abbrev pub HasListedOrFailed : Site → Option (List DiskCall) → Option (List DiskCall) → Vec Bool Global → Type 0
+HasListedOrFailed site old new had = HasListed site old new had ⊎ ((new ≡ after_call (Listed None) old) × (had.items ≡ []))

@@ -4,3 +4,4 @@ pub mod Calls
 pub mod Views
 pub mod Benches
 pub mod Earlier
+pub mod Locks

@@ -1,7 +1,7 @@
 // Records of earlier processes.
 ghost use Rattle.std.specs.Prelude.{◌≡◌, Err, IfOk, None, false, length, replicate};
 ghost use Rattle.file_media.specs.Disks.{Listed, after_call};
-ghost use Rattle.file_media.specs.Earlier.{HasListed, IsMarkedBy};
+ghost use Rattle.file_media.specs.Earlier.{HasListed, HasListedOrFailed, IsMarkedBy};
 
 use crate::disk::{Disk, DiskErr};
 use crate::names::parts_of;
@@ -48,4 +48,19 @@ pub fn tapes_with_records<D: Disk>(
         mark(site, name.as_slice(), &mut had);
     }
     Ok(had)
+}
+
+// As `tapes_with_records`, and no mark at all where the listing failed: then each tape counts as one with records.
+pub(crate) fn marks_of<D: Disk>(
+    alloc: Global,
+    disk: &mut D,
+    site: &ValidSite,
+) -> Result<Vec<bool>, NoMemory>
+    ensures { IfOk result (HasListedOrFailed site.now (D.done disk.old) (D.done disk.new)) }
+{
+    match tapes_with_records(alloc, disk, site) {
+        Ok(had) => Ok(had),
+        Err(DiskErr::Fault) => Ok(Vec::new(alloc)),
+        Err(DiskErr::NoMemory) => Err(NoMemory),
+    }
 }

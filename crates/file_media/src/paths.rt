@@ -1,5 +1,5 @@
 // Paths of files.
-ghost use Rattle.std.specs.Prelude.{◌≡◌, ◌++◌, ◌∷◌, [], OnOk, string_bytes};
+ghost use Rattle.std.specs.Prelude.{◌≡◌, ◌++◌, ◌∷◌, [], OnOk, codes, string_bytes};
 ghost use Rattle.file_media.specs.Names.{file_text};
 
 use crate::disk::{DiskFault, FileName};
@@ -47,6 +47,18 @@ pub(crate) fn set_path(path: &mut String, folder: &str, name: FileName<'_>) -> R
 {
     set_folder(path, folder)?;
     if push_name(path, name).is_ok() {
+        Ok(())
+    } else {
+        Err(DiskFault)
+    }
+}
+
+// Makes the text the path of the folder's lock. It takes no memory where there is room.
+pub(crate) fn set_lock(path: &mut String, folder: &str) -> Result<(), DiskFault>
+    ensures { OnOk result (string_bytes path.new ≡ folder.now ++ 47 ∷ codes "cta.lock") }
+{
+    set_folder(path, folder)?;
+    if path.push_str("cta.lock").is_ok() {
         Ok(())
     } else {
         Err(DiskFault)

@@ -1,5 +1,7 @@
 pub mod Causes
 pub mod Streams
+pub mod Closing
+pub mod Accepting
 pub mod Memory
 pub mod Machine
 pub mod Listening

@@ -5,6 +5,9 @@
 //! goes on.
 #![tactic(auto)]
 
+mod accepting;
+mod crossing;
+mod drain;
 mod link;
 mod list_clock;
 mod machine;
@@ -15,13 +18,14 @@ mod memory_source;
 mod open_gate;
 mod pause_gate;
 mod stream;
+mod stream_door;
 mod stream_link;
 mod stream_sink;
 mod stream_source;
-mod tcp_door;
 mod wall_clock;
 mod writing;
 
+pub use crossing::{clock_and_gate_cross, tcp_is_send};
 pub use link::{Clock, Gate, Link, LinkEnd, Listener};
 pub use list_clock::ListClock;
 pub use machine::{file_source, std_sink, std_source};
@@ -32,8 +36,8 @@ pub use memory_source::MemSource;
 pub use open_gate::OpenGate;
 pub use pause_gate::PauseGate;
 pub use stream::{Failed, Sink, Source};
+pub use stream_door::{StreamDoor, TcpDoor};
 pub use stream_link::{StreamLink, TcpLink};
 pub use stream_sink::StreamSink;
 pub use stream_source::StreamSource;
-pub use tcp_door::TcpDoor;
 pub use wall_clock::WallClock;
