@@ -1,12 +1,13 @@
 -- Each step keeps the rule.
 use Rattle.std.proofs.Common.{◌≡◌, ℕ, suc, ◌+◌, ◌%◌, ◌<◌, ◌≤◌, ◌≢◌, ◌==◌, ◌⊎◌, Bool, true, false, List, [], ◌∷◌, ◌++◌, set, length, refl, sym, ap, ◌∙◌, subst, inl, inr, ⊎_elim, arith, Option, Some, None, slice_index, slice_set, le_refl, zero-le}
+use prog.Atomic.{either}
 use Rattle.std.proofs.lemmas.Bool.Decides.{nat_tests}
 use mathlib.Core.List.{IsPrefix}
 use mathlib.Core.Option.{none, some, some-injective, some-ne-none}
 use mathlib.Core.Option as maybe
 use lib.ListN.{get_elem?}
 use Rattle.atomic_table.specs.Table.{State, Act, Me, step, keeps, takes, gives, Valid, Allows, carried_after, homes_after}
-use Rattle.atomic_table.proofs.Lists.{at_set, at_snoc, set_here, set_else}
+use Rattle.atomic_table.proofs.Lists.{at_set, at_snoc, set_again, set_here, set_else}
 use Rattle.turn_hall.specs.declared.view.Made.{Made}
 use Rattle.turn_hall.specs.declared.view.View.{View}
 use Rattle.turn_hall.specs.declared.view.Last.{Last}
@@ -15,7 +16,7 @@ use Rattle.turn_hall.specs.Lists.{one_if}
 use Rattle.turn_hall.specs.Calls.{made_in, mine_after, RisesFrom}
 use Rattle.turn_hall.specs.Views.{waiting, seats_of, adds_at, count_of, is_called, holding, waited, entered, passed_on}
 use Rattle.turn_hall.specs.Promises.{Apart}
-use Rattle.turn_hall.specs.Told.{DrawTells, LookTells, SeesOrEnters, PassTells, LeavesWith, IsAtRest, CarriesPlay}
+use Rattle.turn_hall.specs.Told.{DrawTells, DrawsIf, LookTells, SeesOrEnters, PassTells, LeavesWith, IsAtRest, CarriesPlay}
 use Rattle.turn_hall.specs.Rule.{WasKept, IsTrueView, LiesInSlot, KeepsRule}
 use Rattle.turn_hall.proofs.Totals.{total_set, total_le, total_has}
 use Rattle.turn_hall.proofs.Books.{at_below, book_same, book_more}
@@ -109,17 +110,16 @@ module _ {T W E C B : Type 0} (history : T → List E) (right : Option W → T �
       let other : i ≢ id = λ e. absurd (cc (some-injective v u (sym at ∙ (ap (get_elem? views) (sym e) ∙ h.1.2)), h.1.3, was)) in
       inr (h.0, (i, u, set_else views id i w other ∙ h.1.2, h.1.3))
 
-  pub drawn : (all slots id : ℕ) (me : Me S V) → IsAtRest me
-      → Allows (KeepsRule history right o plays topic adds all begun) slots id me 0 (λ n. (n + 1) % 18446744073709551616) (DrawTells (step slots 0 1 0 none) me)
-  drawn all slots id me rest s r deep at fits =
+  -- the rule holds on where a view at rest has drawn the next ticket
+  has_drawn : (all id : ℕ) (me : Me S V) (s : St) → IsAtRest me → get_elem? s.views id ≡ some me.0 → (r : KeepsRule history right o plays topic adds all begun s)
+      → KeepsRule history right o plays topic adds all begun record { words = (r.ticket + 1) ∷ r.serving ∷ []; homes = s.homes; views = set s.views id (holding me.0 r.ticket) }
+  has_drawn all id me s rest at r =
       let v : V = me.0 in
-      let few = few_tickets all s r in
       let small = r.few in
       let low = r.low in
       let t : ℕ = r.ticket in
       let n : ℕ = r.serving in
       let w : V = holding v t in
-      let wrap : (t + 1) % 18446744073709551616 ≡ t + 1 = omega arith in
       let counts = total_set waiting s.views id v w at in
       let zero_before : waiting v ≡ 0 = ap count_of rest.0 in
       let some_seat : 0 < v.seats = rest.3 in
@@ -127,41 +127,67 @@ module _ {T W E C B : Type 0} (history : T → List E) (right : Option W → T �
       let c0 = r.counted in
       let s0 = r.shared in
       let mine = r.each id v at in
-      subst (Ends all s id v me.1 0 (λ n. (n + 1) % 18446744073709551616) (DrawTells (step slots 0 1 0 none) me)) (sym r.words) (
+      record {
+        ticket = t + 1;
+        serving = n;
+        log = r.log;
+        words = refl;
+        lies = lies_same s.homes s.views r.log id v w at rest.1 refl r.lies;
+        counted = omega arith;
+        apart = apart_set s.views id w r.apart (λ i u k other here same had. let b = (r.each i u here).bounds k had in let e : t ≡ k = cc in absurd (omega arith));
+        each = each_set (IsTrueView (WasKept history right o) plays o (t + 1) n r.log) s.views id w
+            record {
+              sited = mine.sited;
+              bounds = λ k e. let e' : t ≡ k = cc in omega arith;
+              turn = λ e. absurd cc;
+              seated = omega arith;
+              known = mine.known;
+              saw = mine.saw;
+              lawful = mine.lawful;
+              listened = mine.listened;
+              answers = mine.answers;
+              rises = mine.rises;
+              spare = mine.spare;
+            }
+            (λ i u other here. let f = r.each i u here in record { sited = f.sited; bounds = λ k e. let b = f.bounds k e in omega arith; turn = f.turn; seated = f.seated; known = f.known; saw = f.saw; lawful = f.lawful; listened = f.listened; answers = f.answers; rises = f.rises; spare = f.spare });
+        book = book_same topic adds (length begun) n r.log s.views id v w at refl (le_refl _) (λ e. e) (λ p. p) r.book;
+        shared = omega arith;
+        few = small;
+        low = low;
+        begins = r.begins;
+      }
+
+  -- what a draw of the ticket k comes to, where it is the next one or not
+  abbrev DrawEnds : ℕ → ℕ → Me S V → St → ℕ → ℕ → ℕ → Bool → Type 0
+  DrawEnds all id me s k t n is =
+      (w : V) × (a : Act S) × Valid s.homes me.1 a
+      × KeepsRule history right o plays topic adds all begun record { words = either is (k + 1) t ∷ n ∷ []; homes = homes_after s.homes me.1 a; views = set s.views id w }
+      × DrawsIf is me t (w, carried_after me.1 a)
+
+  draw_ends : (all id k : ℕ) (me : Me S V) (s : St) → IsAtRest me → get_elem? s.views id ≡ some me.0 → (r : KeepsRule history right o plays topic adds all begun s)
+      → (is : Bool) → (r.ticket == k) ≡ is → DrawEnds all id me s k r.ticket r.serving is
+  draw_ends all id k me s rest at r true is =
+      let same : r.ticket ≡ k = grind (arith, nat_tests) in
+      let w : V = holding me.0 r.ticket in (
         w,
         keeps,
         tt,
-        record {
-          ticket = t + 1;
-          serving = n;
-          log = r.log;
-          words = ap (λ (k : ℕ). k ∷ n ∷ []) wrap;
-          lies = lies_same s.homes s.views r.log id v w at rest.1 refl r.lies;
-          counted = omega arith;
-          apart = apart_set s.views id w r.apart (λ i u k other here same had. let b = (r.each i u here).bounds k had in let e : t ≡ k = cc in absurd (omega arith));
-          each = each_set (IsTrueView (WasKept history right o) plays o (t + 1) n r.log) s.views id w
-              record {
-                sited = mine.sited;
-                bounds = λ k e. let e' : t ≡ k = cc in omega arith;
-                turn = λ e. absurd cc;
-                seated = omega arith;
-                known = mine.known;
-                saw = mine.saw;
-                lawful = mine.lawful;
-                listened = mine.listened;
-                answers = mine.answers;
-                rises = mine.rises;
-                spare = mine.spare;
-              }
-              (λ i u other here. let f = r.each i u here in record { sited = f.sited; bounds = λ k e. let b = f.bounds k e in omega arith; turn = f.turn; seated = f.seated; known = f.known; saw = f.saw; lawful = f.lawful; listened = f.listened; answers = f.answers; rises = f.rises; spare = f.spare });
-          book = book_same topic adds (length begun) n r.log s.views id v w at refl (le_refl _) (λ e. e) (λ p. p) r.book;
-          shared = omega arith;
-          few = small;
-          low = low;
-          begins = r.begins;
-        },
+        subst (λ (i : ℕ). KeepsRule history right o plays topic adds all begun record { words = (i + 1) ∷ r.serving ∷ []; homes = s.homes; views = set s.views id w }) same (has_drawn all id me s rest at r),
         ap (λ (c : List (ℕ × S)). (w, c)) rest.2,
       )
+  draw_ends all id k me s rest at r false is = (
+    me.0,
+    keeps,
+    tt,
+    subst (λ (views : List V). KeepsRule history right o plays topic adds all begun record { words = r.ticket ∷ r.serving ∷ []; homes = s.homes; views = views }) (sym (set_again s.views id me.0 at))
+        record { ticket = r.ticket; serving = r.serving; log = r.log; words = refl; lies = r.lies; counted = r.counted; apart = r.apart; each = r.each; book = r.book; shared = r.shared; few = r.few; begins = r.begins; low = r.low },
+    refl,
+  )
+
+  pub drawn : (all slots id k : ℕ) (me : Me S V) → IsAtRest me
+      → Allows (KeepsRule history right o plays topic adds all begun) slots id me 0 (λ n. either (n == k) (k + 1) n) (DrawTells (step slots 0 k (k + 1) none) me)
+  drawn all slots id k me rest s r deep at fits =
+      subst (Ends all s id me.0 me.1 0 (λ n. either (n == k) (k + 1) n) (DrawTells (step slots 0 k (k + 1) none) me)) (sym r.words) (draw_ends all id k me s rest at r (r.ticket == k) refl)
 
   -- where a view has the ticket that is served and is not in turn, no other is in turn, so the value is at home
   at_home : (all id : ℕ) (s : St) (r : KeepsRule history right o plays topic adds all begun s) (v : V) → get_elem? s.views id ≡ some v → v.ticket ≡ Some r.serving → v.in_turn ≡ false

@@ -1,5 +1,5 @@
 -- What each step of a turn tells.
-use Rattle.std.specs.Prelude.{◌≡◌, ℕ, ◌+◌, ◌<◌, ◌≤◌, Bool, true, false, List, [], ◌∷◌, Option, Some, None}
+use Rattle.std.specs.Prelude.{◌≡◌, ℕ, ◌==◌, ◌+◌, ◌<◌, ◌≤◌, Bool, true, false, List, [], ◌∷◌, Option, Some, None}
 use mathlib.Core.List.{IsPrefix}
 use Rattle.atomic_table.specs.Table.{Me, Step}
 use Rattle.turn_hall.specs.declared.view.View.{View}
@@ -31,9 +31,14 @@ module _ {T W E C B : Type 0} where
   abbrev pub HasHeard : (T → List E) → (Option W → T → Type 0) → View W E C B → Type 0
   HasHeard history right v = (v.seats < 4294967296) × ((log : List E) × IsPrefix v.seen log × IsPrefix v.heard log) × (0 < v.seats → WasKept history right v.site v.seen) × RisesFrom 0 v.mine
 
-  -- a draw: the view has the ticket that was read
+  -- a draw whose ticket was the next one, and one whose ticket was not
+  abbrev pub DrawsIf : Bool → Sat T W E C B → ℕ → Sat T W E C B → Type 0
+  DrawsIf true m n w = w ≡ (holding m.0 n, [])
+  DrawsIf false m n w = w ≡ m
+
+  -- a draw: where the number that was read is the ticket that is wanted, the view has it
   abbrev pub DrawTells : At T C B → Sat T W E C B → ℕ → Sat T W E C B → Type 0
-  DrawTells s m n w = w ≡ (holding m.0 n, [])
+  DrawTells s m n w = DrawsIf (n == s.first) m n w
 
   -- in turn the view has the value, and has seen its history, which begins with all that it had seen
   abbrev pub EntersWith : (T → List E) → (Option W → T → Type 0) → (E → Option ℕ) → (C → B → Bool) → Sat T W E C B → ℕ → Sat T W E C B → Type 0

@@ -70,7 +70,7 @@ impl<T: Keeps> Hall<T> {
     }
 
     /// Waits for its turn, plays the call once on the value, and passes the turn on. The call is the one call that is added to the
-    /// pass's own. It takes no memory but what the call takes. A ticket of 2^62 or more is never served.
+    /// pass's own. It takes no memory but what the call takes. A ticket of 2^62 or more is never drawn.
     pub fn turn<R: Wait>(&self, rt: &R, pass: &mut Pass<T>, call: T::Call) -> T::Back
         requires here { IsPassOf T.site self.now pass.old }
         requires fits { T.fits (T.site (first_of self.now)) (view pass.old).seen call }

@@ -17,12 +17,11 @@ pub type Place<T> = Seat<
     View<<T as Keeps>::Site, <T as Keeps>::Entry, <T as Keeps>::Call, <T as Keeps>::Back>,
 >;
 
-/// The table of a hall, with two words and one slot, and the lock under which tickets are drawn.
+/// The table of a hall, with two words and one slot, and the lock at which threads wait.
 #[derive(Drop)]
 pub struct Room<S, V, K, P: TableRule<S, V, K>> {
     pub(crate) table: Table<S, V, K, P, Global>,
-    // Held from before a ticket is drawn until its turn is passed on, so that a ticket is drawn by a thread that runs, and is served
-    // at once. A ticket that is drawn before its turn waits for one certain thread, which may sleep. No clause speaks of it.
+    // Held by the one thread that looks whether the hall is free, while all others that wait sleep. No clause speaks of it.
     pub(crate) entry: Mutex<()>,
     ghost two: { (table.shared.table_id.words ≡ 2) × (table.shared.table_id.slots ≡ 1) },
 }

@@ -24,10 +24,10 @@ impl<T: Keeps> TableRule<
     ghost first = { λ key. fresh (Some (T.site key.first.value)) key.seats (T.history key.first.value) };
 }
 
-// To draw a ticket.
-pub struct Draw;
+// To draw the next ticket, where it has a certain number.
+pub struct DrawNext;
 
-impl<T, W, E, C, B> Play<Option<InSlot<T, C, B>>, View<W, E, C, B>> for Draw {
+impl<T, W, E, C, B> Play<Option<InSlot<T, C, B>>, View<W, E, C, B>> for DrawNext {
     ghost then = { DrawTells };
 }
 

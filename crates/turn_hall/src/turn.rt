@@ -1,5 +1,5 @@
 // One turn, step by step.
-ghost use Rattle.std.specs.Prelude.{◌≡◌, ℕ, ◌+◌, ◌<◌, ◌≤◌, true, false, Some, None, [], ◌∷◌};
+ghost use Rattle.std.specs.Prelude.{◌≡◌, ℕ, ◌+◌, ◌<◌, ◌≤◌, true, false, Some, None, IfSome, IfNone, [], ◌∷◌};
 ghost use mathlib.Core.List.{IsPrefix};
 ghost use Rattle.turn_hall.specs.Handles.{first_of};
 ghost use Rattle.turn_hall.specs.Calls.{RisesFrom};
@@ -10,7 +10,7 @@ ghost use Rattle.turn_hall.specs.Rule.{IsRightValue};
 
 use crate::keeps::Keeps;
 use crate::room::{Hall, Place};
-use crate::steps::{Draw, Look, PassOn};
+use crate::steps::{DrawNext, Look, PassOn};
 use crate::view::{InSlot, Last};
 use std::snapshot::Snapshot;
 use std::sync::Wait;
@@ -22,18 +22,72 @@ const TICKET: usize = 0;
 // The word that counts the turns that have ended.
 const SERVING: usize = 1;
 
-// A ticket of this number or more is never served, so that the words never wrap.
+// A ticket of this number or more is never drawn, so that the words never wrap.
 const MOST: u64 = 1 << 62;
 
 impl<T: Keeps> Hall<T> {
-    // Draws a ticket.
-    fn draw(&self, seat: &mut Place<T>) -> u64
+    // Draws the ticket of this number, where it is the next one. Where it isn't, nothing happens.
+    fn draw_next(&self, seat: &mut Place<T>, ticket: u64) -> bool
+        requires here { seat.old.table_id ≡ self.now.table.shared.table_id }
+        requires rest { IsAtRest seat.old.me }
+        requires low { ticket < 4611686018427387904 }
+        ensures same { (seat.new.table_id ≡ seat.old.table_id) × (seat.new.id ≡ seat.old.id) }
+        ensures drawn { result ≡ true → seat.new.me ≡ (holding seat.old.me.0 ticket, []) }
+        ensures stays { result ≡ false → seat.new.me ≡ seat.old.me }
+    {
+        self.table
+            .shared
+            .compare_exchange::<DrawNext>(seat, TICKET, ticket, ticket + 1)
+            == ticket
+    }
+
+    // Draws a ticket that is served at once, where the hall is free: a ticket that is drawn before its turn would wait for one certain thread,
+    // which may sleep, while others run.
+    fn draw_free(&self, seat: &mut Place<T>) -> Option<u64>
+        requires here { seat.old.table_id ≡ self.now.table.shared.table_id }
+        requires rest { IsAtRest seat.old.me }
+        ensures same { (seat.new.table_id ≡ seat.old.table_id) × (seat.new.id ≡ seat.old.id) }
+        ensures drawn { IfSome result (λ ticket. (seat.new.me ≡ (holding seat.old.me.0 ticket, [])) × (ticket < 4611686018427387904)) }
+        ensures stays { IfNone result (seat.new.me ≡ seat.old.me) }
+    {
+        let ticket = self.table.shared.peek(SERVING);
+        if ticket < MOST && self.draw_next(seat, ticket) {
+            Some(ticket)
+        } else {
+            None
+        }
+    }
+
+    // Waits until the hall is free, and draws a ticket then. Of all threads that wait one looks, and the others sleep.
+    fn draw_waiting<R: Wait>(&self, rt: &R, seat: &mut Place<T>) -> u64
         requires here { seat.old.table_id ≡ self.now.table.shared.table_id }
         requires rest { IsAtRest seat.old.me }
         ensures same { (seat.new.table_id ≡ seat.old.table_id) × (seat.new.id ≡ seat.old.id) }
         ensures drawn { seat.new.me ≡ (holding seat.old.me.0 result, []) }
+        ensures low { result < 4611686018427387904 }
     {
-        self.table.shared.fetch_add::<Draw>(seat, TICKET, 1)
+        let _entry = self.entry.lock(rt);
+        for _ in rt.forever() {
+            if let Some(ticket) = self.draw_free(seat) {
+                return ticket;
+            }
+            thread::yield_now();
+        }
+        unreachable!()
+    }
+
+    // Draws a ticket once the hall is free.
+    fn draw<R: Wait>(&self, rt: &R, seat: &mut Place<T>) -> u64
+        requires here { seat.old.table_id ≡ self.now.table.shared.table_id }
+        requires rest { IsAtRest seat.old.me }
+        ensures same { (seat.new.table_id ≡ seat.old.table_id) × (seat.new.id ≡ seat.old.id) }
+        ensures drawn { seat.new.me ≡ (holding seat.old.me.0 result, []) }
+        ensures low { result < 4611686018427387904 }
+    {
+        match self.draw_free(seat) {
+            Some(ticket) => ticket,
+            None => self.draw_waiting(rt, seat),
+        }
     }
 
     // Looks once, and says whether the turn has come. Where it has, the same step takes the slot.
@@ -69,11 +123,7 @@ impl<T: Keeps> Hall<T> {
         ensures entered { HasEntered T.history (IsRightValue T.site T.legal T.history) T.topic T.adds seat.old.me.0 result seat.new.me }
         ensures low { result < 4611686018427387904 }
     {
-        let ticket = self.draw(seat);
-        if ticket >= MOST {
-            for _ in rt.forever() {}
-            unreachable!()
-        }
+        let ticket = self.draw(rt, seat);
         for _ in rt.forever() {
             if self.look(seat, ticket) {
                 return ticket;
@@ -122,11 +172,9 @@ impl<T: Keeps> Hall<T> {
         ensures rises { RisesFrom 0 seat.new.me.0.mine }
     {
         T::keeps_laws();
-        let entry = self.entry.lock(rt);
         self.enter(rt, seat);
         let back = self.play_in_turn(seat, call);
         self.pass_on(seat);
-        drop(entry);
         back
     }
 
