@@ -3,7 +3,7 @@ use Rattle.std.proofs.Common.{◌≡◌, ℕ, ◌≤◌, Bool, true, false, inl,
 use Rattle.std.specs.Prelude.{Option, Some, None}
 use Rattle.std.proofs.lemmas.Option.{none-some, same_Some}
 use Rattle.blob.specs.Records.{MediumView}
-use Rattle.cta_site.specs.Listed.{Listed, rows}
+use Rattle.cta_site.specs.Listed.{Listed}
 use Rattle.cta_model.specs.declared.answers.Answer.{Answer}
 use Rattle.cta_model.specs.declared.answers.Answer.TheVariants as answer
 use Rattle.cta_model.specs.declared.asks.Ask.{Ask}
@@ -30,7 +30,7 @@ use Rattle.drive_session.specs.declared.states.Mounted.{Mounted}
 use Rattle.drive_session.specs.declared.states.State.{State}
 use Rattle.drive_session.specs.declared.states.State.TheVariants as state
 use Rattle.drive_session.specs.Answers.{batch_by, claimed_state, is_asking, is_memory, line_after, next_state, state_after}
-use Rattle.drive_session.specs.Fits.{FitsAsk, FitsIn, FitsOpen, FitsResolved, FitsState, IsMountAt}
+use Rattle.drive_session.specs.Fits.{FitsAsk, FitsOpen, FitsResolved, FitsState, IsMountAt}
 use Rattle.drive_session.specs.Steps.{is_loaded_in, medium_held, medium_left}
 use Rattle.drive_session.specs.Table.{AnswersLeadByPhase, GoesWith, HeldMount, IsBatchHand, Phase, Free, Held, Leaving, Reading, Ready, Writing, claim_phase, line_by, next_phase, phase_after, phase_of}
 use Rattle.session_laws.proofs.Bares.{open_bare, same_loaded, state_bare}

@@ -2,14 +2,14 @@
 use Rattle.std.proofs.Common.{◌≡◌, ℕ, ◌+◌, ◌≤◌, inl, inr, List, ◌++◌, length, ap, ◌∙◌, arith, length-append}
 use Rattle.std.proofs.lemmas.List.Concat.{flat_map-append}
 use Rattle.cta_site.specs.declared.site.Site.{Site}
+use Rattle.archive_opening.specs.declared.status.Status.{Status}
+use Rattle.archive_opening.specs.declared.status.Status.TheVariants.{Ok, Usage, Site as SiteRule, Script, ReadFault, WriteFault, NoMemory, TooLong, ListenFault}
 use Rattle.replay.specs.Steps.{RunState}
 use Rattle.replay.specs.Seen.{World}
 use Rattle.replay.specs.Script.{Record, ScriptCut, whole_bytes, spelling}
 use Rattle.replay.specs.Run.{Happening}
 use Rattle.replay.specs.Output.{after}
 use Rattle.replay.specs.Outcome.{Wrote, IsScriptFault, EndsScript}
-use Rattle.replay.specs.declared.status.Status.{Status}
-use Rattle.replay.specs.declared.status.Status.TheVariants.{Ok, Usage, Site as SiteRule, Script, ReadFault, WriteFault, NoMemory, TooLong, ListenFault}
 use Rattle.replay.proofs.Writing.{wrote_behind, first_behind, front_behind}
 
 abbrev pub behind : List Record → ScriptCut → ScriptCut

@@ -3,11 +3,13 @@ use Rattle.std.proofs.Common.{◌≡◌, Bool, ℕ, ◌+◌, ◌<◌, ◌⊎◌,
 use Rattle.std.specs.Io.KnownBytes.{Consumes, IsAtEnd}
 use Rattle.std.proofs.lemmas.List.{append_cancel_left}
 use Rattle.outside.specs.Causes.{Rose}
-use Rattle.blob.specs.Records.{MediumView}
 use Rattle.cta_site.specs.declared.site.Site.{Site}
 use Rattle.cta_site.specs.WellFormed.{IsWellFormed}
 use Rattle.links.specs.Run.{IsRun}
-use Rattle.replay.specs.Seen.{SourceView, SinkView, World, world, unread}
+use Rattle.archive_opening.specs.Seen.{SourceView}
+use Rattle.archive_opening.specs.declared.status.Status.{Status}
+use Rattle.archive_opening.specs.declared.status.Status.TheVariants.{Ok, Usage, Site as SiteRule, Script, ReadFault, WriteFault, NoMemory, TooLong, ListenFault}
+use Rattle.replay.specs.Seen.{SinkView, World, world, unread}
 use Rattle.replay.specs.Script.{Record, ScriptCut, ScriptTail, Ended, MayGoOn, IsRefusedAt, ended, whole_bytes, tail_bytes, tail_records, cut_bytes, cut_records, InLine, InBytes, BadLine, LongLine, NoLf}
 use Rattle.replay.specs.Run.{ScriptTurn, record_of, links_turns, all_happenings}
 use Rattle.replay.specs.Promises.{KeepsPromises}
@@ -15,8 +17,6 @@ use Rattle.replay.specs.Steps.{Made, begun_with}
 use Rattle.replay.specs.Intake.{Took, budget}
 use Rattle.replay.specs.Outcome.{AreMade, Wrote, EndsScript, Finishes, Replays, ReachesEnd, IsReadWhole}
 use Rattle.replay.specs.RecordTurns.{RunsToEnd}
-use Rattle.replay.specs.declared.status.Status.{Status}
-use Rattle.replay.specs.declared.status.Status.TheVariants.{Ok, Usage, Site as SiteRule, Script, ReadFault, WriteFault, NoMemory, TooLong, ListenFault}
 use Rattle.replay.proofs.Readings.{StopsWithin, stops_before_end}
 
 -- what a reading of such a script took, and what it left

@@ -1,5 +1,6 @@
 -- How a script ends in a record's bytes: what the parts of a reading make of it.
 use Rattle.std.proofs.Common.{◌≡◌, ℕ, ◌+◌, ◌-◌, ◌≤◌, inl, inr, List, [], ◌∷◌, ◌++◌, length, Option, None, Some, refl, sym, subst, arith, append-nil, append_assoc, length-append}
+use Rattle.archive_opening.specs.declared.status.Status.{Status}
 use Rattle.replay.specs.Steps.{RunState}
 use Rattle.links.specs.Run.{Turn, IsRun, IsRunBehind}
 use Rattle.links.specs.Laws.{RunsFollow}
@@ -9,7 +10,6 @@ use Rattle.replay.specs.Seen.{World, begun}
 use Rattle.replay.specs.Line.{http_text, IsHttp}
 use Rattle.replay.specs.Script.{ScriptCut, InBytes, NoLf, MayGoOn, ended}
 use Rattle.replay.specs.Run.{Exchange, Happening, Answered, OnLink, all_happenings, answered_on, events_of, turn_with}
-use Rattle.blob.specs.Records.{MediumView}
 use Rattle.replay.specs.Output.{after, run_behind}
 use Rattle.replay.specs.Promises.{AreSound}
 use Rattle.replay.specs.Intake.{Took, HasStopped}
@@ -19,7 +19,6 @@ use Rattle.replay.specs.declared.intake.Stop.{Stop}
 use Rattle.replay.specs.declared.intake.Stop.TheVariants.{End, Fault, Full, Memory}
 use Rattle.replay.specs.declared.output.Unwritten.{Unwritten}
 use Rattle.replay.specs.declared.output.Unwritten.TheVariants.{Broken, Wanting}
-use Rattle.replay.specs.declared.status.Status.{Status}
 use Rattle.replay.proofs.Taking.{Took-trans}
 use Rattle.replay.proofs.Delivering.{stopped_since}
 use Rattle.replay.proofs.Writing.{first_all}

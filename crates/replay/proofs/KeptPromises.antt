@@ -1,5 +1,5 @@
 -- What a run keeps from its start, by what each of its steps keeps.
-use Rattle.std.proofs.Common.{List, sym, subst}
+use Rattle.std.proofs.Common.{sym, subst}
 use Rattle.std.specs.List.{AllByRecursion}
 use Rattle.cta_model.specs.Kept.{KeepsLegal}
 use Rattle.cta_laws.specs.Jobs.{ClaimerMoves, IsQueuedOrClaimed}

@@ -19,7 +19,6 @@ pub mod Readings
 pub mod OneReading
 pub mod OneOutput
 pub mod Completing
-pub mod Sites
 pub mod Asked
 pub mod Turned
 pub mod Manned

@@ -13,6 +13,8 @@ use Rattle.drive_session.specs.declared.reports.Call.TheVariants as call
 use Rattle.drive_session.specs.declared.reports.Done.{Done}
 use Rattle.drive_session.specs.declared.reports.Done.TheVariants as done
 use Rattle.drive_session.specs.Table.{Phase, Free, Held, HeldMount, Leaving, Reading, Ready, Writing, reading_row, row_of, writing_row}
+use Rattle.archive_opening.specs.declared.status.Status.{Status}
+use Rattle.archive_opening.specs.declared.status.Status.TheVariants.{Ok, Script, WriteFault, NoMemory}
 use Rattle.replay.specs.Steps.{DriveState, IsRowFit, IsStepOf, RunState, kept_in, line_by_row, row_at, row_in}
 use Rattle.links.specs.Run.{Turn}
 use Rattle.links.specs.declared.links.Links.{Links}
@@ -32,8 +34,6 @@ use Rattle.replay.specs.StepRecords.{EndsInStep, HasStepped}
 use Rattle.replay.specs.declared.line.ScriptLine.{ScriptLine}
 use Rattle.replay.specs.declared.line.ScriptLine.TheVariants.{Step}
 use Rattle.replay.specs.declared.intake.Stop.{Stop}
-use Rattle.replay.specs.declared.status.Status.{Status}
-use Rattle.replay.specs.declared.status.Status.TheVariants.{Ok, Script, WriteFault, NoMemory}
 use Rattle.replay.proofs.Taking.{Took-trans}
 use Rattle.replay.proofs.Writing.{first_none, wrote_none}
 use Rattle.replay.proofs.Ending.{EndsScript-stopped}

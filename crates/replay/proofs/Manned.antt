@@ -22,7 +22,6 @@ use Rattle.drive_session.specs.declared.states.Mounted.{Mounted}
 use Rattle.drive_session.specs.declared.states.State.{State}
 use Rattle.drive_session.specs.declared.states.State.TheVariants as state
 use Rattle.drive_session.specs.Fits.{FitsState, IsMountAt}
-use Rattle.drive_session.specs.Table.{phase_of}
 use Rattle.session_laws.specs.Laws.{AreOthers, SessionStays}
 use Rattle.replay.specs.Desk.{AreManned, HasNoMount, IsAbout, IsManned, IsRowAbout, drive_state, drive_states}
 use Rattle.replay.specs.Steps.{kept_by}

@@ -13,15 +13,14 @@ use Rattle.cta_model.specs.declared.asks.Ask.TheVariants as ask
 use Rattle.cta_model.specs.Answers.{answer_of, is_accepted}
 use Rattle.cta_model.specs.Kept.{shelf_after}
 use Rattle.drive_session.specs.declared.reports.Done.{Done}
-use Rattle.drive_session.specs.declared.reports.StepLine.{StepLine}
 use Rattle.drive_session.specs.Steps.{NoMismatch}
 use Rattle.drive_session.specs.Table.{Row}
 use Rattle.media.specs.Drives.{DriveView}
-use Rattle.media.specs.Made.{IsNewMedium}
 use Rattle.tape_routes.specs.Callers.{CallersAsk}
+use Rattle.archive_opening.specs.Made.{AreNewMedia}
 use Rattle.replay.specs.Laws.{LiveReadsAreDone}
-use Rattle.replay.specs.Outcome.{AreMade, AreNewMedia}
-use Rattle.replay.specs.Output.{event_keeps, run_behind}
+use Rattle.replay.specs.Outcome.{AreMade}
+use Rattle.replay.specs.Output.{run_behind}
 use Rattle.replay.specs.Promises.{AreSound, IsSound, IsSoundStep, IsTelling, ReadsRightly}
 use Rattle.replay.specs.Run.{Answered, Happening, Stepped}
 use Rattle.replay.specs.Steps.{DriveState, Made, RunState, answer_to, begun_with, behind_row, free_drive, kept_by, kept_in, medium_behind, phase_behind, row_at, row_in}

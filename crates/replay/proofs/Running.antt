@@ -21,7 +21,10 @@ use Rattle.links.specs.Run.{IsRunBehind}
 use Rattle.links.specs.Laws.{RunsFollow}
 use Rattle.links.specs.Standing.{StandFor, LinksStand}
 use Rattle.links.specs.declared.links.Links.{Links}
-use Rattle.replay.specs.Seen.{SourceView, SinkView, World, unread}
+use Rattle.archive_opening.specs.Seen.{SourceView}
+use Rattle.archive_opening.specs.declared.status.Status.{Status}
+use Rattle.archive_opening.specs.declared.status.Status.TheVariants.{NoMemory}
+use Rattle.replay.specs.Seen.{SinkView, World, unread}
 use Rattle.replay.specs.Script.{Record, OfLink, OfDrive, IsRecord, IsScriptCut, InLine, cut_bytes, whole_bytes, tail_bytes, tail_records, spelling}
 use Rattle.replay.specs.Run.{ScriptTurn, Happening, Answered, Stepped, record_of, links_turn, links_turns, happenings_of, all_happenings}
 use Rattle.replay.specs.Output.{after, event_keeps, run_behind}
@@ -30,8 +33,6 @@ use Rattle.replay.specs.Steps.{Made, RunState, begun_with, behind_row, row_at}
 use Rattle.replay.specs.Intake.{Took}
 use Rattle.replay.specs.Outcome.{AreMade, Wrote, EndsScript, Finishes, Replays}
 use Rattle.replay.specs.RecordTurns.{AnswersRecord}
-use Rattle.replay.specs.declared.status.Status.{Status}
-use Rattle.replay.specs.declared.status.Status.TheVariants.{NoMemory}
 use Rattle.replay.proofs.Taking.{Took-trans, Took-none}
 use Rattle.replay.proofs.Writing.{after-behind, wrote_behind, wrote_none, first_none}
 use Rattle.replay.proofs.Returned.{none_kept}

@@ -1,6 +1,6 @@
 -- A run from its start: a desk over drives that a bench has made.
 use Rattle.std.proofs.Common.{◌≡◌, ℕ, zero, suc, ◌+◌, ◌≤◌, Bool, true, false, List, [], ◌∷◌, length, refl, sym, ap, ◌∙◌, subst, arith}
-use Rattle.std.specs.Prelude.{Option, Some, slice_get}
+use Rattle.std.specs.Prelude.{Some, slice_get}
 use Rattle.std.proofs.lemmas.Option.{none-some, same_Some}
 use Rattle.blob.specs.Records.{MediumView}
 use Rattle.cta_site.specs.declared.site.Site.{Site}
@@ -12,15 +12,16 @@ use Rattle.media.specs.Counted.{no_counts}
 use Rattle.media.specs.Drives.{DriveView}
 use Rattle.media.specs.Made.{IsNewDrive, IsNewMedium, plan_of}
 use Rattle.media.specs.Memory.{new_medium}
-use Rattle.replay.specs.Seen.{SourceView, SinkView, world, unread}
+use Rattle.archive_opening.specs.Seen.{SourceView}
+use Rattle.archive_opening.specs.declared.status.Status.{Status}
+use Rattle.archive_opening.specs.declared.status.Status.TheVariants.{NoMemory}
+use Rattle.replay.specs.Seen.{SinkView, world, unread}
 use Rattle.replay.specs.Script.{cut_records}
 use Rattle.replay.specs.Intake.{budget}
 use Rattle.replay.specs.Desk.{Begins, DeskView}
 use Rattle.replay.specs.Laws.{RunsKeepPromises}
 use Rattle.replay.specs.Outcome.{Finishes, Replays}
-use Rattle.replay.specs.Steps.{Made, RunState, begun_with}
-use Rattle.replay.specs.declared.status.Status.{Status}
-use Rattle.replay.specs.declared.status.Status.TheVariants.{NoMemory}
+use Rattle.replay.specs.Steps.{RunState, begun_with}
 use Rattle.replay.proofs.Histories.{cut_is_timely}
 use Rattle.replay.proofs.Running.{wanted_first}
 

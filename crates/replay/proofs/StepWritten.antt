@@ -1,8 +1,6 @@
 -- What a `step` record comes to, by the step and by the writing of its line.
 use Rattle.std.proofs.Common.{◌≡◌, ℕ, inl, inr, refl, sym, ap, ◌∙◌, subst}
-use Rattle.std.specs.Prelude.{Option}
 use Rattle.std.specs.Io.KnownBytes.{Appends}
-use Rattle.blob.specs.Records.{MediumView}
 use Rattle.drive_session.specs.declared.reports.StepLine.{StepLine}
 use Rattle.replay.specs.Desk.{StepsOn}
 use Rattle.replay.specs.RecordTurns.{unwritten_status}

@@ -4,7 +4,6 @@ use Rattle.std.specs.Prelude.{Option, Some, None, IfSome, map, slice_get}
 use Rattle.std.specs.List.{list_any}
 use Rattle.std.proofs.lemmas.Bool.{cases_Bool, eqb-true, eq-eqb}
 use Rattle.std.proofs.lemmas.Option.{none-some, same_Some}
-use Rattle.std.proofs.lemmas.List.{length-map}
 use Rattle.blob.specs.Records.{MediumView, medium_at}
 use Rattle.cta_site.specs.declared.site.Site.{Site}
 use Rattle.cta_model.specs.declared.asks.Direction.{Direction}
@@ -20,19 +19,18 @@ use Rattle.cta_laws.specs.Media.{TrueMediumStays, puts_on}
 use Rattle.cta_laws.proofs.Frames.{mounts_same}
 use Rattle.cta_laws.proofs.MountLaw.{tape_is_mounted}
 use Rattle.cta_laws.proofs.OpenMounts.{mount_older, open_older}
-use Rattle.archive.specs.States.{AreFirstMedia, AreShelved}
+use Rattle.archive.specs.States.{AreShelved}
 use Rattle.archive.specs.Shelf.{IsPlaceOf}
 use Rattle.media.specs.Drives.{DriveView}
-use Rattle.media.specs.Made.{IsNewMedium}
-use Rattle.media.specs.Records.{no_records}
 use Rattle.drive_session.specs.declared.session.Memo.{Memo}
 use Rattle.drive_session.specs.declared.states.Mounted.{Mounted}
 use Rattle.drive_session.specs.declared.states.State.{State}
 use Rattle.drive_session.specs.declared.states.State.TheVariants as state
 use Rattle.drive_session.specs.Fits.{FitsState, IsAt, IsMountAt}
 use Rattle.drive_session.specs.Steps.{medium_held}
+use Rattle.archive_opening.specs.Made.{AreNewMedia}
+use Rattle.archive_opening.proofs.FirstMedia.{new_medium_true}
 use Rattle.replay.specs.Desk.{AreManned, IsFree, drive_state, drive_states}
-use Rattle.replay.specs.Outcome.{AreNewMedia}
 use Rattle.replay.specs.Promises.{AllTapesHaveMedia, HasMedium, IsOnShelf, IsWithDrive}
 use Rattle.replay.specs.Steps.{Made, RunState, begun_with}
 use Rattle.replay.proofs.Manned.{states_at}
@@ -190,29 +188,8 @@ at_once [] v m is = absurd (none-some m is)
 at_once (x ∷ media) zero m is = is
 at_once (x ∷ media) (suc v) m is = at_once media v m is
 
-no_records_true : (v : ℕ) → IsTrueMedium [] v no_records
-no_records_true v = record {
-  within = omega arith;
-  enough = omega arith;
-  named = λ f c p on is. absurd (none-some p is);
-}
-
-new_medium_true : (tells : Bool) (v : ℕ) (m : MediumView) → IsNewMedium tells v m → IsMediumOf [] v m
-new_medium_true tells v m new = record { label = new.label; truth = some_stays (λ t. t ≡ no_records) (IsTrueMedium [] v) m.records (λ t is. subst (IsTrueMedium [] v) (sym is) (no_records_true v)) new.empty }
-
 -- what a bench has made is there, and true for the empty history
 pub first_have_media : (tells : Bool) (site : Site) (made : Made) → AreNewMedia tells site made.media → AllTapesHaveMedia (begun_with site made)
 first_have_media tells site made new v low =
     let x = got made.media v (subst (λ n. v < n) (sym new.count) low) in
     record { medium = x.0; is = new_medium_true tells v x.0 (new.each v x.0 x.1); place = inl (record { free = refl; place = at_once made.media v x.0 x.1 }) }
-
-pub first_media : {M : Type 0} (tells : Bool) (site : Site) (told : M → MediumView) (ms : List M) → AreNewMedia tells site (map told ms) → AreFirstMedia told site ms
-first_media tells site told ms new = record {
-  count = sym (length-map ms told) ∙ new.count;
-  each = λ v m is. new_medium_true tells v (told m) (new.each v (told m) (seen_at told ms v m is));
-}
-  where
-    seen_at : {M : Type 0} (told : M → MediumView) (xs : List M) (k : ℕ) (x : M) → slice_get xs k ≡ Some x → slice_get (map told xs) k ≡ Some (told x)
-    seen_at told [] k x is = absurd (none-some x is)
-    seen_at told (y ∷ xs) zero x is = ap (λ z. Some (told z)) (same_Some y x is)
-    seen_at told (y ∷ xs) (suc k) x is = seen_at told xs k x is

@@ -4,16 +4,15 @@ use Rattle.std.specs.Io.KnownBytes.{Consumes, IsAtEnd}
 use Rattle.outside.specs.Causes.{Rose}
 use Rattle.cta_site.specs.Faults.{first_fault}
 use Rattle.cta_site.specs.Numbering.{IsNumberedFrom}
-use Rattle.blob.specs.Records.{MediumView}
 use Rattle.cta_site.specs.declared.site.Site.{Site}
-use Rattle.replay.specs.Seen.{SourceView}
+use Rattle.archive_opening.specs.Seen.{SourceView}
+use Rattle.archive_opening.specs.SiteFile.{IsSiteOf, NoSite, site_fault}
+use Rattle.archive_opening.specs.declared.status.Status.{Status}
+use Rattle.archive_opening.specs.declared.status.Status.TheVariants.{Ok, Usage, Site as SiteRule, Script, ReadFault, WriteFault, NoMemory, TooLong, ListenFault}
+use Rattle.archive_opening.proofs.Sites.{not_long, one_site}
 use Rattle.replay.specs.Outcome.{IsReadWhole, ReachesEnd}
-use Rattle.replay.specs.SiteFile.{IsSiteOf, NoSite, site_fault}
 use Rattle.replay.specs.Top.{Handed, Runs, RunsWhole}
-use Rattle.replay.specs.declared.status.Status.{Status}
-use Rattle.replay.specs.declared.status.Status.TheVariants.{Ok, Usage, Site as SiteRule, Script, ReadFault, WriteFault, NoMemory, TooLong, ListenFault}
 use Rattle.replay.proofs.Completing.{RunsToEnd-from_replays}
-use Rattle.replay.proofs.Sites.{not_long, one_site}
 
 -- what was taken of the site file is a front of it, and all of it at its end
 taken_site : (site bytes : List ℕ) (left left' : Option (List ℕ)) → left ≡ Some site → Consumes left left' bytes → (length bytes ≤ length site) × (IsAtEnd left' → bytes ≡ site)

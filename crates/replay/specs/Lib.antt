@@ -12,7 +12,5 @@ pub mod Outcome
 pub mod RecordTurns
 pub mod Desk
 pub mod StepRecords
-pub mod SiteFile
-pub mod SiteReading
 pub mod Top
 pub mod Laws

@@ -1,24 +1,23 @@
 -- How a script ends, and what was written for it then.
-use Rattle.blob.specs.Records.{MediumView}
 use Rattle.cta_site.specs.WellFormed.{IsWellFormed}
 use Rattle.cta_site.specs.declared.site.Site.{Site}
 use Rattle.links.specs.Run.{Turn, IsRunBehind}
-use Rattle.media.specs.Drives.{DriveView}
-use Rattle.media.specs.Made.{IsNewDrive, IsNewMedium}
 use Rattle.outside.specs.Causes.{Rose}
 use Rattle.outside.specs.Streams.{AppendsFront}
+use Rattle.archive_opening.specs.Made.{AreNewDrives, AreNewMedia}
+use Rattle.archive_opening.specs.Seen.{SourceView}
+use Rattle.archive_opening.specs.declared.status.Status.{Status}
+use Rattle.archive_opening.specs.declared.status.Status.TheVariants.{Ok, Usage, NoMemory, Site as SiteRule, Script, ReadFault, WriteFault, TooLong, ListenFault}
 use Rattle.replay.specs.Intake.{Took, budget}
 use Rattle.replay.specs.Output.{HaveContents, output_on}
 use Rattle.replay.specs.Promises.{AreSound, KeepsPromises}
 use Rattle.replay.specs.Run.{ScriptTurn, Happening, all_happenings, IsScriptRun, record_of, links_turns}
 use Rattle.replay.specs.Script.{Record, ScriptCut, Ended, MayGoOn, IsRefusedAt, IsScriptCut, IsRecord, cut_bytes, cut_records, whole_bytes, ended}
-use Rattle.replay.specs.Seen.{SourceView, SinkView, ScriptView, World, world, unread}
+use Rattle.replay.specs.Seen.{SinkView, ScriptView, World, world, unread}
 use Rattle.replay.specs.Steps.{Made, RunState, begun_with}
-use Rattle.replay.specs.declared.status.Status.{Status}
-use Rattle.replay.specs.declared.status.Status.TheVariants.{Ok, Usage, NoMemory, Site as SiteRule, Script, ReadFault, WriteFault, TooLong, ListenFault}
 use Rattle.std.specs.Io.KnownBytes.{IsAtEnd, Appends}
 use Rattle.std.specs.List.{AllByRecursion}
-use Rattle.std.specs.Prelude.{◌≡◌, ℕ, ◌⊎◌, Bool, List, Option, Some, [], ◌++◌, length, codes, map, slice_get, ◌+◌, ◌<◌, ◌≤◌}
+use Rattle.std.specs.Prelude.{◌≡◌, ℕ, ◌⊎◌, Bool, List, Option, Some, [], ◌++◌, length, codes, map, ◌+◌, ◌<◌, ◌≤◌}
 
 -- ---- what is written
 
@@ -75,16 +74,6 @@ pub record Finishes (s : RunState) (before : List Turn) (a b : World) (status : 
 -- ---- the bytes of a record
 
 -- ---- whole runs
-
--- the drives of a site, seen so at first: as a bench makes them
-pub record AreNewDrives (tells : Bool) (site : Site) (seen : List DriveView) : Type 0 where
-  pub count : length seen ≡ length site.drives.items
-  pub each : (d : ℕ) (v : DriveView) → slice_get seen d ≡ Some v → IsNewDrive tells site d v
-
--- the media of a site: the one of each tape, by its number, as a bench makes them
-pub record AreNewMedia (tells : Bool) (site : Site) (media : List MediumView) : Type 0 where
-  pub count : length media ≡ length site.tapes.items
-  pub each : (v : ℕ) (m : MediumView) → slice_get media v ≡ Some m → IsNewMedium tells v m
 
 -- what a bench has made for a site
 pub record AreMade (tells : Bool) (site : Site) (made : Made) : Type 0 where

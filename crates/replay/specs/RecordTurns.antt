@@ -6,13 +6,16 @@ use Rattle.links.specs.Standing.{StandFor}
 use Rattle.links.specs.declared.links.Links.{Links}
 use Rattle.outside.specs.Causes.{Rose}
 use Rattle.outside.specs.Streams.{AppendsFront}
+use Rattle.archive_opening.specs.Seen.{SourceView}
+use Rattle.archive_opening.specs.declared.status.Status.{Status}
+use Rattle.archive_opening.specs.declared.status.Status.TheVariants.{Ok, NoMemory, Script, ReadFault, WriteFault, TooLong}
 use Rattle.replay.specs.Intake.{Took, HasStopped}
 use Rattle.replay.specs.Outcome.{ReachesEnd, IsReadWhole, Wrote, WritesFirst, WritesFront, EndsScript, Finishes}
 use Rattle.replay.specs.Output.{Reply, after, frame}
 use Rattle.replay.specs.Promises.{AreSound}
 use Rattle.replay.specs.Run.{ScriptTurn, Happening, all_happenings, Exchange, record_of, links_turn, links_turns, turn_with, events_of, answered_on, happenings_of}
 use Rattle.replay.specs.Script.{Record, ScriptCut, IsScriptCut, IsRecord, cut_bytes, cut_records, spelling}
-use Rattle.replay.specs.Seen.{SourceView, SinkView, ScriptView, World, begun}
+use Rattle.replay.specs.Seen.{SinkView, ScriptView, World, begun}
 use Rattle.replay.specs.Steps.{RunState}
 use Rattle.replay.specs.declared.feeding.FeedEnd.{FeedEnd}
 use Rattle.replay.specs.declared.feeding.FeedEnd.TheVariants.{All, Part, Unanswered}
@@ -20,8 +23,6 @@ use Rattle.replay.specs.declared.intake.Stop.{Stop}
 use Rattle.replay.specs.declared.intake.Stop.TheVariants.{End, Fault, Full, Memory}
 use Rattle.replay.specs.declared.output.Unwritten.{Unwritten}
 use Rattle.replay.specs.declared.output.Unwritten.TheVariants.{Broken, Wanting}
-use Rattle.replay.specs.declared.status.Status.{Status}
-use Rattle.replay.specs.declared.status.Status.TheVariants.{Ok, NoMemory, Script, ReadFault, WriteFault, TooLong}
 use Rattle.std.specs.Io.KnownBytes.{Appends}
 use Rattle.std.specs.Prelude.{◌≡◌, ℕ, ◌⊎◌, Bool, List, Option, Some, [], ◌∷◌, ◌++◌, length, map, None, ◌≢◌, ◌≤◌, Result, MatchResult, OnOk}
 

@@ -1,14 +1,6 @@
 -- What is seen of the objects that a run is handed, at a moment.
 use Rattle.std.specs.Prelude.{ℕ, ◌-◌, List, length, Option}
-
--- a source: what it still gives, where it tells, and its count of faults
-pub record SourceView : Type 0 where
-  pub left : Option (List ℕ)
-  pub faults : ℕ
-
--- a source by its parts
-abbrev pub source_view : Option (List ℕ) → ℕ → SourceView
-source_view left faults = record { left = left; faults = faults }
+use Rattle.archive_opening.specs.Seen.{SourceView}
 
 -- a sink: what was written to it, where it tells, and its count of faults
 pub record SinkView : Type 0 where

@@ -6,6 +6,8 @@ use Rattle.outside.specs.Streams.{AppendsFront}
 use Rattle.blob.specs.Records.{MediumView}
 use Rattle.media.specs.Drives.{DriveView}
 use Rattle.drive_session.specs.declared.reports.Done.{Done}
+use Rattle.archive_opening.specs.declared.status.Status.{Status}
+use Rattle.archive_opening.specs.declared.status.Status.TheVariants.{NoMemory, WriteFault}
 use Rattle.replay.specs.Output.{run_behind, written_for}
 use Rattle.replay.specs.Promises.{IsSoundStep}
 use Rattle.replay.specs.Run.{Stepped}
@@ -13,8 +15,6 @@ use Rattle.replay.specs.Seen.{SinkView}
 use Rattle.replay.specs.Steps.{IsStepOf, RunState}
 use Rattle.replay.specs.declared.output.Unwritten.{Unwritten}
 use Rattle.replay.specs.declared.output.Unwritten.TheVariants.{Broken, Wanting}
-use Rattle.replay.specs.declared.status.Status.{Status}
-use Rattle.replay.specs.declared.status.Status.TheVariants.{NoMemory, WriteFault}
 
 -- why a line was not written, and what was: the sink has failed and took a front of it; or memory was wanted, and it took nothing
 abbrev pub NotPut : Unwritten → SinkView → SinkView → List ℕ → Type 0

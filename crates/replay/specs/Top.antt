@@ -2,13 +2,14 @@
 use Rattle.std.specs.Prelude.{◌≡◌, ℕ, ◌⊎◌, Bool, List, Option, Some}
 use Rattle.outside.specs.Causes.{Rose}
 use Rattle.cta_site.specs.declared.site.Site.{Site}
+use Rattle.archive_opening.specs.Seen.{SourceView, source_view}
+use Rattle.archive_opening.specs.SiteFile.{IsSiteOf, NoSite, ReadsSite}
+use Rattle.archive_opening.specs.declared.status.Status.{Status}
+use Rattle.archive_opening.specs.declared.status.Status.TheVariants.{Ok, Usage, NoMemory}
 use Rattle.replay.specs.Words.{IsReplayForm}
-use Rattle.replay.specs.Seen.{SourceView, SinkView, sink_view, source_view}
+use Rattle.replay.specs.Seen.{SinkView, sink_view}
 use Rattle.replay.specs.Script.{Record}
 use Rattle.replay.specs.Outcome.{Replays, ReachesEnd, IsReadWhole}
-use Rattle.replay.specs.SiteFile.{IsSiteOf, NoSite, ReadsSite}
-use Rattle.replay.specs.declared.status.Status.{Status}
-use Rattle.replay.specs.declared.status.Status.TheVariants.{Ok, Usage, NoMemory}
 
 -- what is seen, at a moment, of the objects that a run is handed: the site file, the script, and what is written for it
 pub record Handed : Type 0 where

@@ -6,13 +6,14 @@ ghost use Rattle.drive_session.specs.Answers.{is_asking, is_memory};
 ghost use Rattle.drive_session.specs.Fits.{FitsOpen};
 ghost use Rattle.tape_routes.specs.Answering.{IsReplyTo, request_keeps};
 ghost use Rattle.drive_session.specs.Steps.{medium_left};
+ghost use Rattle.archive_opening.specs.Made.{AreNewDrives};
+ghost use Rattle.archive_opening.specs.SiteReading.{IsOpened};
 ghost use Rattle.replay.specs.Desk.{AreFree, AreManned, Begins, IsAskedOf, IsIdleFor, IsManned, IsTurn, StepsOn};
-ghost use Rattle.replay.specs.Outcome.{AreNewDrives};
-ghost use Rattle.replay.specs.SiteReading.{IsOpened};
 ghost use Rattle.replay.specs.Steps.{kept_in, with_kept};
 
 use crate::service::Service;
 use archive::Archive;
+use archive_opening::drives_of;
 use cta_model::{Ask, Hand, NoMemory};
 use cta_site::ValidSite;
 use drive_session::{Session, StepLine, answers_lead_by_phase, steps_hear_answers};
@@ -42,23 +43,6 @@ impl<D: TapeDrive + Drop> Model for Desk<D> {
     ghost view = { λ d. desk_of D.Medium.told d.service.archive d.sessions.items (map D.seen d.drives.items) d.ready };
 
     ghost invariant = { λ d. d.ready ≡ true → AreManned D.Medium.told d.service.archive.site d.service.archive.history d.sessions.items (map D.seen d.drives.items) };
-}
-
-// The drives of a site, made by a bench, by number.
-fn drives_of<D: TapeDrive + Drop, B: Bench<D>>(
-    alloc: Global,
-    site: &ValidSite,
-    bench: &mut B,
-) -> Result<Vec<D>, NoMemory>
-    ensures { IfOk result (λ drives. AreNewDrives (B.tells bench.old) site.now (map D.seen drives.items)) }
-{
-    site.keeps_rules();
-    let mut drives = Vec::new(alloc);
-    for drive in 0..site.drives().len() {
-        let made = bench.drive(site, drive as u32)?;
-        drives.push(made)?;
-    }
-    Ok(drives)
 }
 
 // A session that is free for each of so many drives, by number.

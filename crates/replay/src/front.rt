@@ -1,8 +1,8 @@
 // What a script meets: a desk with an archive and its drives, and the links.
 ghost use Rattle.std.specs.Prelude.{[], IfOk};
 ghost use Rattle.links.specs.Standing.{LinksStand};
+ghost use Rattle.archive_opening.specs.SiteReading.{IsOpened};
 ghost use Rattle.replay.specs.Desk.{Begins};
-ghost use Rattle.replay.specs.SiteReading.{IsOpened};
 
 use crate::desk::Desk;
 use archive::Archive;

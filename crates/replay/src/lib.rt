@@ -11,20 +11,17 @@ mod front;
 mod intake;
 mod laws;
 mod line;
-mod opening;
 mod output;
 mod record;
 mod run;
 mod service;
-mod site;
-mod status;
 mod step_lines;
 mod top;
 mod words;
 
+pub use archive_opening::Status;
 pub use laws::{
     links_apart, live_reads_are_done, one_output, one_reading, outputs_follow,
     runs_keep_legal_histories, runs_keep_promises,
 };
-pub use status::Status;
 pub use top::replay_top;

@@ -1,6 +1,5 @@
 // The lines of a script.
-ghost use Rattle.std.specs.Prelude.{◌≡◌, ◌≢◌, ◌<◌, ◌≤◌, ℕ, length, MatchOption};
-ghost use Rattle.cta_site.specs.declared.site.Site.{Site};
+ghost use Rattle.std.specs.Prelude.{◌≡◌, ◌≢◌, ◌<◌, ℕ, length, MatchOption};
 ghost use Rattle.replay.specs.Line.{text, drive_name, http_words, step_words, IsHttp, IsDriveStep, IsLine};
 ghost use Rattle.replay.specs.declared.line.ScriptLine.{ScriptLine};
 

@@ -2,14 +2,15 @@
 ghost use Rattle.std.specs.Prelude.{◌≡◌, ◌<◌, [], Bool, length, true};
 ghost use Rattle.cta_site.specs.declared.site.Site.{Site};
 ghost use Rattle.links.specs.Standing.{LinksStand};
+ghost use Rattle.archive_opening.specs.Seen.{source_view};
 ghost use Rattle.replay.specs.Desk.{Begins};
-ghost use Rattle.replay.specs.Seen.{source_view, sink_view};
+ghost use Rattle.replay.specs.Seen.{sink_view};
 ghost use Rattle.replay.specs.Outcome.{Replays};
 
 use crate::front::Front;
 use crate::laws::runs_keep_promises;
 use crate::record::one_record;
-use crate::status::Status;
+use archive_opening::Status;
 use links::runs_follow;
 use media::TapeDrive;
 use outside::{Sink, Source};

@@ -1,16 +1,16 @@
 // The run of the program.
-ghost use Rattle.std.specs.Prelude.{◌≡◌, map, string_bytes};
+ghost use Rattle.std.specs.Prelude.{map, string_bytes};
+ghost use Rattle.archive_opening.specs.Seen.{source_view};
+ghost use Rattle.archive_opening.specs.SiteReading.{IsOpened};
 ghost use Rattle.replay.specs.Outcome.{Replays};
-ghost use Rattle.replay.specs.SiteReading.{IsOpened};
-ghost use Rattle.replay.specs.Seen.{source_view, sink_view};
+ghost use Rattle.replay.specs.Seen.{sink_view};
 ghost use Rattle.replay.specs.Top.{handed, HasReplayed, Runs};
 
 use crate::front::Front;
 use crate::run::run_script;
-use crate::site::read_archive;
-use crate::status::Status;
 use crate::words::is_replay_form;
 use archive::Archive;
+use archive_opening::{Status, read_archive};
 use cta_site::one_numbering;
 use media::{Bench, TapeDrive};
 use outside::{Sink, Source};

@@ -1,12 +1,11 @@
 -- Each tape that no open mount has has its medium on the shelf, and each medium tells its records.
 use Rattle.std.proofs.Common.{◌≡◌, ◌∙◌, ℕ, zero, suc, ◌<◌, ◌⊎◌, inl, inr, ◌==◌, ◌||◌, Bool, true, false, List, [], ◌∷◌, length, refl, sym, ap, ap₂, subst, arith, map}
-use Rattle.std.specs.Prelude.{Option, Some, None, IsSome, is_some, slice_get, slice_set}
+use Rattle.std.specs.Prelude.{Option, Some, None, IsSome, is_some}
 use Rattle.std.specs.List.{AllByRecursion, list_any}
 use Rattle.std.proofs.lemmas.Bool.{cases_Bool}
 use Rattle.blob.specs.Records.{MediumView, medium_at}
 use Rattle.cta_site.specs.declared.site.Site.{Site}
 use Rattle.cta_model.specs.declared.answers.Answer.{Answer}
-use Rattle.cta_model.specs.declared.answers.Answer.TheVariants as answer
 use Rattle.cta_model.specs.declared.asks.Ask.{Ask}
 use Rattle.cta_model.specs.declared.asks.Ask.TheVariants as ask
 use Rattle.cta_model.specs.declared.entries.Entry.{Entry}
@@ -26,11 +25,11 @@ use Rattle.media.specs.Drives.{DriveView}
 use Rattle.tape_routes.specs.Asked.{Asked, Asks, Looks, Replies, asked}
 use Rattle.tape_routes.specs.Answering.{kept_then, request_keeps}
 use Rattle.tape_routes.specs.Callers.{CallersAsk, IsCallers}
-use Rattle.replay.specs.Outcome.{AreNewMedia}
+use Rattle.archive_opening.specs.Made.{AreNewMedia}
 use Rattle.replay.specs.Output.{event_keeps}
 use Rattle.replay.specs.Promises.{AllTapesHaveMedia, HaveMediaBehind, IsOnShelf, IsTelling, IsWithDrive}
-use Rattle.replay.specs.Steps.{Made, RunState, behind_row, begun_with, kept_by, kept_in}
-use Rattle.replay.proofs.Rightly.{all_map, all_put, kept_tells, shelf_tells}
+use Rattle.replay.specs.Steps.{Made, RunState, behind_row, begun_with, kept_in}
+use Rattle.replay.proofs.Rightly.{all_map, kept_tells}
 
 -- ---- the shelf
 

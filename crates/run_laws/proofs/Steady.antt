@@ -1,13 +1,12 @@
 -- In a run over a bench that tells, each drive answers what is due.
-use Rattle.std.proofs.Common.{◌≡◌, ◌≢◌, ◌∙◌, ℕ, zero, suc, ◌<◌, Bool, true, false, ◌==◌, List, [], ◌∷◌, length, refl, sym, ap, ap₂, subst}
+use Rattle.std.proofs.Common.{◌≡◌, ◌≢◌, ◌∙◌, ℕ, ◌<◌, Bool, true, false, ◌==◌, List, [], ◌∷◌, length, refl, sym, ap, ap₂, subst}
 use Rattle.std.specs.Prelude.{Option, Some, None, IsSome, slice_get, if◌then◌else◌}
 use Rattle.std.specs.List.{AllByRecursion}
 use Rattle.std.proofs.lemmas.Option.{none-some, same_Some}
-use Rattle.blob.specs.Records.{MediumView, medium_at}
+use Rattle.blob.specs.Records.{MediumView}
 use Rattle.cta_site.specs.declared.site.Site.{Site}
 use Rattle.cta_model.specs.declared.answers.Answer.{Answer}
 use Rattle.cta_model.specs.declared.answers.Answer.TheVariants as answer
-use Rattle.cta_model.specs.declared.asks.Ask.{Ask}
 use Rattle.cta_model.specs.declared.asks.Ask.TheVariants as ask
 use Rattle.cta_model.specs.declared.asks.Direction.{Direction}
 use Rattle.cta_model.specs.declared.asks.Direction.TheVariants as direction
@@ -29,7 +28,7 @@ use Rattle.run_laws.specs.Changed.{AreChangesTold, IsChangeTold, TellsChange, is
 use Rattle.run_laws.proofs.Due.{IsReadTrue, due, heard_alone, is_due, plan_is, plan_then, plan_told, read_true}
 use Rattle.run_laws.proofs.MountedTape.{mounted_free}
 use Rattle.run_laws.proofs.Shelved.{IsShelved, event_shelved, event_site, first_shelved, row_shelved}
-use Rattle.replay.proofs.Rightly.{all_got, all_map, all_put, drive_tells, told_at}
+use Rattle.replay.proofs.Rightly.{all_got, all_map, all_put, drive_tells}
 
 -- ---- what a step hears is due
 

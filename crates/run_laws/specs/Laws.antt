@@ -4,15 +4,16 @@ use Rattle.std.specs.List.{flat_map}
 use Rattle.cta_site.specs.declared.site.Site.{Site}
 use Rattle.links.specs.Laws.{MayDiffer}
 use Rattle.mismatch_laws.specs.Alike.{AreAlike}
+use Rattle.archive_opening.specs.Seen.{SourceView}
+use Rattle.archive_opening.specs.declared.status.Status.TheVariants.{Ok}
 use Rattle.replay.specs.Laws.{history_of_run, output_of}
 use Rattle.replay.specs.Outcome.{AreMade, Replays}
 use Rattle.replay.specs.Output.{HaveContents}
 use Rattle.replay.specs.Promises.{AreSound}
 use Rattle.replay.specs.Run.{IsScriptRun, ScriptTurn, all_happenings, links_turns}
 use Rattle.replay.specs.Script.{ScriptCut, IsScriptCut, cut_bytes, cut_records}
-use Rattle.replay.specs.Seen.{SinkView, SourceView}
+use Rattle.replay.specs.Seen.{SinkView}
 use Rattle.replay.specs.Steps.{Made, begun_with}
-use Rattle.replay.specs.declared.status.Status.TheVariants.{Ok}
 use Rattle.run_laws.specs.Changed.{AreChangesTold, Collides}
 use Rattle.run_laws.specs.Texts.{EachAlike, texts_of}
 use Rattle.run_laws.specs.Told.{IsToldRun}

@@ -1,6 +1,7 @@
 use Rattle.std.proofs.Common.{◌≡◌, ◌+◌, arith, subst, sym}
+use Rattle.archive_opening.proofs.Numbered.{Numbered, numbered_more, numbered_none}
 use Rattle.replay.specs.Desk.{free_memo}
-use Rattle.replay.proofs.Benches.{Numbered, free_sessions, numbered_more, numbered_none}
+use Rattle.replay.proofs.Benches.{free_sessions}
 use Rattle.replay.proofs.desk.sessions_of.Goals as goal
 
 pub loop-drive-init : goal.loop-drive-init

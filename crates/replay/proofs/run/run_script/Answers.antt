@@ -1,6 +1,7 @@
 use Rattle.std.proofs.Common.{subst}
 use Rattle.cta_site.specs.WellFormed.{IsWellFormed}
-use Rattle.replay.specs.Seen.{source_view, sink_view}
+use Rattle.archive_opening.specs.Seen.{source_view}
+use Rattle.replay.specs.Seen.{sink_view}
 use Rattle.replay.proofs.Starting.{wanted_at_start}
 use Rattle.replay.proofs.run.run_script.Goals as goal
 

@@ -1,9 +1,7 @@
 use Rattle.std.proofs.Common.{◌≡◌, sym, ap, ◌∙◌}
 use Rattle.std.proofs.lemmas.Result.{IfOk-weaker}
 use Rattle.cta_model.specs.Kept.{Kept}
-use Rattle.archive_turns.specs.Plays.{kept_with}
 use Rattle.archive_front.specs.Questions.{asked_of_call, moment_of_call}
-use Rattle.tape_routes.specs.Answering.{kept_then}
 use Rattle.replay.proofs.Running.{kept_then-site}
 use Rattle.replay.proofs.RequestReplies.{asked_so, call_replied, on_ok}
 use Rattle.replay.proofs.service.call_reply.Goals as goal

@@ -1,5 +1,6 @@
 use Rattle.std.proofs.Common.{inr, subst}
-use Rattle.replay.specs.Seen.{source_view, sink_view}
+use Rattle.archive_opening.specs.Seen.{source_view}
+use Rattle.replay.specs.Seen.{sink_view}
 use Rattle.replay.specs.Outcome.{Replays}
 use Rattle.replay.proofs.top.replay_site.Goals as goal
 

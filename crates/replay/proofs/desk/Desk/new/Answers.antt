@@ -2,8 +2,8 @@ use Rattle.std.proofs.Common.{true, length, subst, sym}
 use Rattle.std.specs.Prelude.{map}
 use Rattle.cta_site.specs.declared.site.Site.{Site}
 use Rattle.cta_model.specs.Kept.{Kept}
+use Rattle.archive_opening.specs.Made.{AreNewDrives}
 use Rattle.replay.specs.Desk.{AreFree, AreManned, Begins, desk_of}
-use Rattle.replay.specs.Outcome.{AreNewDrives}
 use Rattle.replay.proofs.Benches.{all_manned, starts}
 use Rattle.replay.proofs.desk.Desk.new.Goals as goal
 

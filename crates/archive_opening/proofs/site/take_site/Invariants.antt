@@ -1,7 +1,7 @@
 use Rattle.std.proofs.Common.{◌+◌, ◌-◌, ◌≤◌, length, vec_len}
 use Rattle.std.specs.Io.KnownBytes.{Consumes}
-use Rattle.replay.specs.SiteFile.{site_limit}
-use Rattle.replay.proofs.site.take_site.Given as goal
+use Rattle.archive_opening.specs.SiteFile.{site_limit}
+use Rattle.archive_opening.proofs.site.take_site.Given as goal
 
 abbrev pub invariant-loop-piece : goal.invariant-loop-piece
 invariant-loop-piece g l = record {

@@ -1,5 +1,5 @@
-use Rattle.replay.proofs.Sites.{checked_told, file_error}
-use Rattle.replay.proofs.site.site_of.Goals as goal
+use Rattle.archive_opening.proofs.Sites.{checked_told, file_error}
+use Rattle.archive_opening.proofs.site.site_of.Goals as goal
 
 pub returns-in-Ok : goal.returns-in-Ok
 returns-in-Ok c = checked_told c.args.bytes.now c.in-Ok.site c.check.result c.in-Ok.ensures.value.0 c.in-Ok.ensures.value.1 c.check.ensures

@@ -1,17 +1,17 @@
--- How a site file is read and an archive made of it, as the clauses of private functions say it.
+-- How a site file is read and an archive made of it.
 use Rattle.blob.specs.Records.{MediumView}
 use Rattle.cta_model.specs.Kept.{Kept}
 use Rattle.cta_site.specs.declared.check.SiteError.{SiteError}
 use Rattle.cta_site.specs.declared.check.SiteError.TheVariants as error
 use Rattle.cta_site.specs.declared.site.Site.{Site}
 use Rattle.outside.specs.Causes.{Rose}
-use Rattle.replay.specs.Outcome.{AreNewMedia}
-use Rattle.replay.specs.Seen.{SourceView}
-use Rattle.replay.specs.SiteFile.{IsSiteOf, NoSite, ReadsSite, site_limit, site_fault}
-use Rattle.replay.specs.declared.site.SiteEnd.{SiteEnd}
-use Rattle.replay.specs.declared.site.SiteEnd.TheVariants.{Fault, Memory, Whole, Long}
-use Rattle.replay.specs.declared.status.Status.{Status}
-use Rattle.replay.specs.declared.status.Status.TheVariants.{Ok, Usage, NoMemory, Site as SiteRule, Script, ReadFault, WriteFault, TooLong, ListenFault}
+use Rattle.archive_opening.specs.Made.{AreNewMedia}
+use Rattle.archive_opening.specs.Seen.{SourceView}
+use Rattle.archive_opening.specs.SiteFile.{IsSiteOf, NoSite, ReadsSite, site_limit, site_fault}
+use Rattle.archive_opening.specs.declared.site.SiteEnd.{SiteEnd}
+use Rattle.archive_opening.specs.declared.site.SiteEnd.TheVariants.{Fault, Memory, Whole, Long}
+use Rattle.archive_opening.specs.declared.status.Status.{Status}
+use Rattle.archive_opening.specs.declared.status.Status.TheVariants.{Ok, Usage, NoMemory, Site as SiteRule, Script, ReadFault, WriteFault, TooLong, ListenFault}
 use Rattle.std.specs.Io.KnownBytes.{Consumes, IsAtEnd}
 use Rattle.std.specs.Prelude.{◌≡◌, ℕ, Bool, List, Some, [], length, map, ◌+◌, ◌≤◌, Result, MatchResult}
 

@@ -1,7 +1,8 @@
 use Rattle.std.proofs.Common.{◌≡◌, ◌+◌, length, refl, ap, arith, subst, sym, ◌∙◌}
 use Rattle.media.specs.Made.{IsNewDrive}
-use Rattle.replay.proofs.Benches.{Numbered, new_drives, numbered_more, numbered_none}
-use Rattle.replay.proofs.desk.drives_of.Goals as goal
+use Rattle.archive_opening.proofs.Benches.{new_drives}
+use Rattle.archive_opening.proofs.Numbered.{Numbered, numbered_more, numbered_none}
+use Rattle.archive_opening.proofs.drives.drives_of.Goals as goal
 
 pub loop-drive-init : goal.loop-drive-init
 loop-drive-init g c = record {
@@ -21,8 +22,8 @@ loop-drive-preserved g c =
       tells = c.in_ok-made.ensures.tells ∙ h.tells;
     }
 
-pub returns : goal.returns
-returns g c =
+pub returns-clause-drives : goal.returns-clause-drives
+returns-clause-drives g c =
     let all : c.loop-drive.drive ≡ length c.drives-drive-end.result.now = omega (arith, c.loop-drive-test.false, c.loop-drive.auto.drive-end) in
     let count : c.loop-drive.drive ≡ length c.args.site.now.drives.items = all ∙ ap length c.drives-drive-end.ensures in
     new_drives (g.B.Bench.tells c.args.bench.now) c.args.site.now g.D.TapeDrive.seen c.loop-drive.drives.items

@@ -1,9 +1,9 @@
 // The site file, read whole.
 ghost use Rattle.std.specs.Prelude.{◌≡◌, [], MatchResult};
 ghost use Rattle.cta_site.specs.Faults.{IsCauseOf};
-ghost use Rattle.replay.specs.Seen.{source_view};
-ghost use Rattle.replay.specs.SiteFile.{IsSiteOf, site_fault};
-ghost use Rattle.replay.specs.SiteReading.{ArchiveMade, IsStatusOf, SiteRead, TookSite};
+ghost use Rattle.archive_opening.specs.Seen.{source_view};
+ghost use Rattle.archive_opening.specs.SiteFile.{IsSiteOf, site_fault};
+ghost use Rattle.archive_opening.specs.SiteReading.{ArchiveMade, IsStatusOf, SiteRead, TookSite};
 
 use crate::opening::open_archive;
 use crate::status::Status;
@@ -94,8 +94,18 @@ fn archive_of<D: TapeDrive, B: Bench<D>>(
     }
 }
 
-// An archive of the site that a site file tells, which has kept nothing yet, or why there is none.
-pub(crate) fn read_archive<A: Source, D: TapeDrive, B: Bench<D>>(
+/// An archive of the site that a site file tells, which has kept nothing yet, with the media that a bench makes; or why there is none.
+///
+/// `site` gives the site file, of at most 16,777,216 bytes, which is read whole before anything is made. Paths are hashed with `keys`.
+/// - `Ok`: all bytes of the source were taken, they break none of the thirty rules of a site file, and the archive's site is what they
+///   tell, its numbered lists in order.
+/// - `Site`: they break this rule, of the thirty rules the first, and first at this item of its list (0 where the rule speaks of no
+///   element). All bytes were taken, or one more than a site file may have, which breaks rule 1.
+/// - `ReadFault`: the source's count of faults rose in this call, with no more bytes taken than a site file may have.
+/// - `NoMemory`: memory was wanted. What was taken of the source is lost.
+///
+/// No other status is answered. It always returns. This project's own.
+pub fn read_archive<A: Source, D: TapeDrive, B: Bench<D>>(
     alloc: Global,
     site: &mut A,
     bench: &mut B,

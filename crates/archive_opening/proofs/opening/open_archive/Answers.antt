@@ -1,6 +1,6 @@
-use Rattle.replay.proofs.Benches.{opened}
-use Rattle.replay.proofs.TrueMedia.{first_media}
-use Rattle.replay.proofs.opening.open_archive.Goals as goal
+use Rattle.archive_opening.proofs.Benches.{opened}
+use Rattle.archive_opening.proofs.FirstMedia.{first_media}
+use Rattle.archive_opening.proofs.opening.open_archive.Goals as goal
 
 pub new-requires : goal.new-requires
 new-requires g c = first_media (g.B.Bench.tells c.args.bench.now) c.args.site g.D.Medium.Told.told c.in_ok-media.media.items c.in_ok-media.ensures.media

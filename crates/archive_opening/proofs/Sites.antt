@@ -13,12 +13,12 @@ use Rattle.cta_site.specs.Faults.{first_fault, IsCauseOf}
 use Rattle.cta_site.specs.Numbering.{IsNumberedFrom}
 use Rattle.site_json.specs.File.{file_fault, file_of, fault_within, site_of}
 use Rattle.cta_model.specs.Kept.{Kept}
-use Rattle.replay.specs.Seen.{SourceView}
-use Rattle.replay.specs.SiteFile.{IsSiteOf, NoSite, site_fault, site_limit}
-use Rattle.replay.specs.SiteReading.{ArchiveMade, NoArchive, SiteRead}
-use Rattle.replay.specs.declared.status.Status.{Status}
-use Rattle.replay.specs.declared.status.Status.TheVariants.{Usage, Site as SiteRule, Script, ReadFault, WriteFault, NoMemory, TooLong, ListenFault}
-use Rattle.replay.specs.declared.status.Status.TheVariants as status
+use Rattle.archive_opening.specs.Seen.{SourceView}
+use Rattle.archive_opening.specs.SiteFile.{IsSiteOf, NoSite, site_fault, site_limit}
+use Rattle.archive_opening.specs.SiteReading.{ArchiveMade, NoArchive, SiteRead}
+use Rattle.archive_opening.specs.declared.status.Status.{Status}
+use Rattle.archive_opening.specs.declared.status.Status.TheVariants.{Usage, Site as SiteRule, Script, ReadFault, WriteFault, NoMemory, TooLong, ListenFault}
+use Rattle.archive_opening.specs.declared.status.Status.TheVariants as status
 
 no_site : (s : Status) (bytes : List ℕ) (a b : SourceView) → Consumes a.left b.left bytes → IsAtEnd b.left → length bytes ≤ site_limit → NoArchive s bytes → NoSite s a b
 no_site (SiteRule rule item) bytes a b took at few h = (bytes, took, inr (at, few), h)

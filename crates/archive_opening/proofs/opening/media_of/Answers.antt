@@ -1,7 +1,8 @@
 use Rattle.std.proofs.Common.{◌≡◌, ◌+◌, length, refl, ap, arith, subst, sym, ◌∙◌}
 use Rattle.media.specs.Made.{IsNewMedium}
-use Rattle.replay.proofs.Benches.{Numbered, new_media, numbered_more, numbered_none}
-use Rattle.replay.proofs.opening.media_of.Goals as goal
+use Rattle.archive_opening.proofs.Benches.{new_media}
+use Rattle.archive_opening.proofs.Numbered.{Numbered, numbered_more, numbered_none}
+use Rattle.archive_opening.proofs.opening.media_of.Goals as goal
 
 pub loop-tape-init : goal.loop-tape-init
 loop-tape-init g c = record {

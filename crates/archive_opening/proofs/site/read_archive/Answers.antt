@@ -1,7 +1,7 @@
 use Rattle.std.proofs.Common.{subst, inl, arith}
-use Rattle.replay.specs.SiteReading.{ArchiveMade}
-use Rattle.replay.proofs.Sites.{site_read, too_long}
-use Rattle.replay.proofs.site.read_archive.Goals as goal
+use Rattle.archive_opening.specs.SiteReading.{ArchiveMade}
+use Rattle.archive_opening.proofs.Sites.{site_read, too_long}
+use Rattle.archive_opening.proofs.site.read_archive.Goals as goal
 
 pub returns-in-Whole-clause-read : goal.returns-in-Whole-clause-read
 returns-in-Whole-clause-read g c =

@@ -1,8 +1,8 @@
 -- The drives that the loop has made.
 use Rattle.std.proofs.Common.{◌≡◌}
 use Rattle.media.specs.Made.{IsNewDrive}
-use Rattle.replay.proofs.Benches.{Numbered}
-use Rattle.replay.proofs.desk.drives_of.Given as goal
+use Rattle.archive_opening.proofs.Numbered.{Numbered}
+use Rattle.archive_opening.proofs.drives.drives_of.Given as goal
 
 abbrev pub invariant-loop-drive : goal.invariant-loop-drive
 invariant-loop-drive g l = record {

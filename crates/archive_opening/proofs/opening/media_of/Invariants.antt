@@ -1,8 +1,8 @@
 -- The media that the loop has made.
 use Rattle.std.proofs.Common.{◌≡◌}
 use Rattle.media.specs.Made.{IsNewMedium}
-use Rattle.replay.proofs.Benches.{Numbered}
-use Rattle.replay.proofs.opening.media_of.Given as goal
+use Rattle.archive_opening.proofs.Numbered.{Numbered}
+use Rattle.archive_opening.proofs.opening.media_of.Given as goal
 
 abbrev pub invariant-loop-tape : goal.invariant-loop-tape
 invariant-loop-tape g l = record {

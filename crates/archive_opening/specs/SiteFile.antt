@@ -3,9 +3,9 @@ use Rattle.cta_site.specs.Faults.{first_fault}
 use Rattle.cta_site.specs.Numbering.{IsNumberedFrom}
 use Rattle.cta_site.specs.declared.site.Site.{Site}
 use Rattle.outside.specs.Causes.{Rose}
-use Rattle.replay.specs.Seen.{SourceView}
-use Rattle.replay.specs.declared.status.Status.{Status}
-use Rattle.replay.specs.declared.status.Status.TheVariants.{Ok, Usage, NoMemory, Site as SiteRule, Script, ReadFault, WriteFault, TooLong, ListenFault}
+use Rattle.archive_opening.specs.Seen.{SourceView}
+use Rattle.archive_opening.specs.declared.status.Status.{Status}
+use Rattle.archive_opening.specs.declared.status.Status.TheVariants.{Ok, Usage, NoMemory, Site as SiteRule, Script, ReadFault, WriteFault, TooLong, ListenFault}
 use Rattle.site_json.specs.File.{file_fault, site_of}
 use Rattle.std.specs.Io.KnownBytes.{Consumes, IsAtEnd}
 use Rattle.std.specs.Option.{option_or}

@@ -1,7 +1,7 @@
 // An archive that has kept nothing yet, with the media that a bench makes.
 ghost use Rattle.std.specs.Prelude.{◌≡◌, IfOk, map};
-ghost use Rattle.replay.specs.Outcome.{AreNewMedia};
-ghost use Rattle.replay.specs.SiteReading.{IsOpened};
+ghost use Rattle.archive_opening.specs.Made.{AreNewMedia};
+ghost use Rattle.archive_opening.specs.SiteReading.{IsOpened};
 
 use archive::Archive;
 use cta_model::NoMemory;
@@ -28,8 +28,9 @@ fn media_of<D: TapeDrive, B: Bench<D>>(
     Ok(media)
 }
 
-// An archive of a site that has kept nothing yet. Paths are hashed with these keys. NoMemory lets the site go.
-pub(crate) fn open_archive<D: TapeDrive, B: Bench<D>>(
+/// An archive of a site that has kept nothing yet, with the medium of each tape, in order of their numbers, as a bench makes them. Paths
+/// are hashed with these keys. NoMemory lets the site and the media go. Its cost is the size of the site. This project's own.
+pub fn open_archive<D: TapeDrive, B: Bench<D>>(
     alloc: Global,
     site: ValidSite,
     bench: &mut B,

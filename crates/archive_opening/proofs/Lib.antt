@@ -1,0 +1,4 @@
+pub mod Numbered
+pub mod FirstMedia
+pub mod Sites
+mod Benches
