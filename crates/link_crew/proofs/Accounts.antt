@@ -62,6 +62,11 @@ module _ {L C B K : Type 0} (question : C → K) (is_callers : K → Bool) (left
   pub nothing_asked : Accounted {B = B} question is_callers left firm limit needs [] [] 0
   nothing_asked = record { asked = []; taken = λ p. refl; calls = λ p. refl; whole = λ z. tt }
 
+  pub none_asked : (mine : List (Made C B)) (got : List (Passed L)) → mine ≡ [] → got ≡ [] → Accounted question is_callers left firm limit needs mine (links_of got) 0
+  none_asked mine got m g =
+      subst (λ (xs : List (Made C B)). Accounted question is_callers left firm limit needs xs (links_of got) 0) (sym m)
+      (subst (λ (ys : List (Passed L)). Accounted {B = B} question is_callers left firm limit needs [] (links_of ys) 0) (sym g) nothing_asked)
+
   -- one more link
   pub one_more : (mine ns : List (Made C B)) (links : List L) (n n' : ℕ) (l : L) (ks : List K) → Accounted question is_callers left firm limit needs mine links n
       → asks_of question is_callers ns ≡ ks → (n' ≡ 0 → n ≡ 0) → (n' ≡ 0 → AsksAll left firm limit needs (l, ks)) → Accounted question is_callers left firm limit needs (mine ++ ns) (links ++ l ∷ []) n'

@@ -1,5 +1,6 @@
 // Links for which there is no room.
-ghost use Rattle.std.specs.Prelude.{◌≡◌, codes, true};
+ghost use Rattle.std.specs.Prelude.{◌≡◌, ◌<◌, codes, true};
+ghost use Rattle.crossbeam_queue.specs.Passes.{view, IsPassOf};
 ghost use Rattle.outside.specs.Streams.{StillAppends};
 ghost use Rattle.wire_http.specs.Reply.{error_reply, reply_text};
 ghost use Rattle.link_crew.specs.Seats.{IsSeatOf};
@@ -24,6 +25,13 @@ pub fn say_busy<L: Link>(alloc: Global, link: &mut L) -> bool
     link.write_all_of(&text).is_ok()
 }
 
+// Says so to a link and closes it.
+fn refuse<L: Link + Drop>(alloc: Global, link: L) {
+    let mut link = link;
+    say_busy(alloc, &mut link);
+    link.close();
+}
+
 /// The worker of links for which there was no room: it takes them from their pool, says so to each and closes it, until the gate tells it to
 /// stop. It gives its seat back. It waits at the gate and for links, and takes the memory of one reply at a time.
 pub fn work_busy<L: Link + Drop, G: Gate, R: Wait>(
@@ -44,13 +52,32 @@ pub fn work_busy<L: Link + Drop, G: Gate, R: Wait>(
             break;
         }
         match full.take(rt, &mut seat) {
-            Some(mut link) => {
+            Some(link) => {
                 idle = false;
-                say_busy(alloc, &mut link);
-                link.close();
+                refuse(alloc, link);
             }
             None => idle = true,
         }
     }
     seat
+}
+
+/// Says that the server is busy to each link that the pool still holds, and closes it. It waits for links, and takes the memory of one reply at
+/// a time.
+pub fn refuse_rest<L: Link + Drop, R: Wait>(
+    rt: &R,
+    alloc: Global,
+    full: &Pool<L>,
+    seat: &mut PoolPass<L>,
+)
+    requires { IsPassOf full.now.queue seat.old × (0 < (view seat.old).parts) }
+    ensures { IsPassOf full.now.queue seat.new }
+{
+    for _ in rt.forever() {
+        match full.take(rt, seat) {
+            Some(link) => refuse(alloc, link),
+            None => return,
+        }
+    }
+    unreachable!()
 }

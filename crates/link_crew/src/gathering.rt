@@ -1,9 +1,13 @@
 // The end of a crew: all passes and seats become one again, and the links that nobody took are served.
-ghost use Rattle.std.specs.Prelude.{◌≡◌, ◌+◌, ◌≤◌, ℕ, []};
+ghost use Rattle.std.specs.Prelude.{◌≡◌, ◌+◌, ◌≤◌, ℕ, List, []};
 ghost use Rattle.crossbeam_queue.specs.Passes.{view as pool_view, IsPassOf as IsPoolPassOf};
+ghost use Rattle.link_loop.specs.declared.front.Routed.{Routed};
+ghost use Rattle.link_pool.specs.declared.views.Passed.{Passed};
 ghost use Rattle.link_pool.specs.Entries.{links_of};
 ghost use Rattle.link_pool.specs.Pooled.{whole};
+ghost use Rattle.turn_hall.specs.declared.view.Made.{Made};
 ghost use Rattle.turn_hall.specs.Handles.{IsPassOf, view, first_of};
+ghost use Rattle.wire_http.specs.declared.request.Request.{Request};
 ghost use Rattle.link_crew.specs.Accounts.{Accounted};
 ghost use Rattle.link_crew.specs.Seats.{IsSeatOf};
 
@@ -16,19 +20,16 @@ use std::sync::Wait;
 use turn_hall::{Hall, Keeps, Pass};
 
 /// A pass that has made no call and a seat that has got no link account for no link: a law (this project's own), which does nothing when it runs.
-pub fn no_links_are_asked<T: Keeps, F: Callers<T>, L: Link>(front: &F)
-    ensures { (file_limit : ℕ) → Accounted {B = T.Back} F.question F.is_callers L.left L.firm file_limit (F.needs (F.site front.now)) [] [] 0 }
-{
-    let _front = front;
-}
+pub fn no_links_are_asked<T: Keeps, F: Callers<T>, L: Link>()
+    ensures { (file_limit : ℕ) (needs : Request → Routed F.Question) (mine : List (Made T.Call T.Back)) (got : List (Passed L)) → mine ≡ [] → got ≡ []
+        → Accounted F.question F.is_callers L.left L.firm file_limit needs mine (links_of got) 0 }
+{}
 
 /// Puts what a worker gives back to a pass and a seat, which then account for the links of both. It gives how many links both left unserved.
 /// It takes no memory and constant time.
 pub fn gather<T: Keeps, F: Callers<T>, L: Link>(
     hall: &Hall<T>,
     pool: &Pool<L>,
-    front: &F,
-    file_limit: u64,
     pass: &mut Pass<T>,
     seat: &mut PoolPass<L>,
     unserved: u64,
@@ -36,13 +37,13 @@ pub fn gather<T: Keeps, F: Callers<T>, L: Link>(
 ) -> u64
     requires here { IsPassOf T.site hall.now pass.old × IsPassOf T.site hall.now worker.pass }
     requires seats { IsPoolPassOf pool.now.queue seat.old × (1 ≤ (pool_view seat.old).parts) × IsSeatOf pool.now.queue worker.seat }
-    requires accounted { Accounted F.question F.is_callers L.left L.firm file_limit (F.needs (F.site front.now)) (view pass.old).mine (links_of (pool_view seat.old).got) unserved }
-    requires others { Accounted F.question F.is_callers L.left L.firm file_limit (F.needs (F.site front.now)) (view worker.pass).mine (links_of (pool_view worker.seat).got) worker.unserved }
     ensures here { IsPassOf T.site hall.now pass.new × (pass.new.seats ≡ pass.old.seats + worker.pass.seats) }
     ensures seat { IsPoolPassOf pool.now.queue seat.new × ((pool_view seat.new).door ≡ (pool_view seat.old).door) × ((pool_view seat.new).parts ≡ (pool_view seat.old).parts + 1) × ((pool_view seat.new).put ≡ (pool_view seat.old).put) }
-    ensures accounted { Accounted F.question F.is_callers L.left L.firm file_limit (F.needs (F.site front.now)) (view pass.new).mine (links_of (pool_view seat.new).got) result }
+    ensures accounted { (file_limit : ℕ) (needs : Request → Routed F.Question)
+        → Accounted F.question F.is_callers L.left L.firm file_limit needs (view pass.old).mine (links_of (pool_view seat.old).got) unserved
+        → Accounted F.question F.is_callers L.left L.firm file_limit needs (view worker.pass).mine (links_of (pool_view worker.seat).got) worker.unserved
+        → Accounted F.question F.is_callers L.left L.firm file_limit needs (view pass.new).mine (links_of (pool_view seat.new).got) result }
 {
-    let _front = front;
     let Served {
         pass: other,
         seat: other_seat,
@@ -61,6 +62,7 @@ pub fn serve_rest<T: Keeps, F: Callers<T>, L: Link + Drop, C: Clock, R: Wait>(
     hall: &Hall<T>,
     pool: &Pool<L>,
     front: &F,
+    tools: &F::Tools,
     file_limit: u64,
     pass: &mut Pass<T>,
     seat: &mut PoolPass<L>,
@@ -70,16 +72,16 @@ pub fn serve_rest<T: Keeps, F: Callers<T>, L: Link + Drop, C: Clock, R: Wait>(
     requires here { IsPassOf T.site hall.now pass.old }
     requires site { F.site front.now ≡ T.site (first_of hall.now) }
     requires seat { IsPoolPassOf pool.now.queue seat.old × ((pool_view seat.old).parts ≡ whole) }
-    requires accounted { Accounted F.question F.is_callers L.left L.firm file_limit (F.needs (F.site front.now)) (view pass.old).mine (links_of (pool_view seat.old).got) unserved }
+    requires accounted { Accounted F.question F.is_callers L.left L.firm file_limit (F.needs (T.site (first_of hall.now))) (view pass.old).mine (links_of (pool_view seat.old).got) unserved }
     ensures here { IsPassOf T.site hall.now pass.new × (pass.new.seats ≡ pass.old.seats) }
     ensures seat { IsPoolPassOf pool.now.queue seat.new × ((pool_view seat.new).put ≡ (pool_view seat.old).put) }
-    ensures accounted { Accounted F.question F.is_callers L.left L.firm file_limit (F.needs (F.site front.now)) (view pass.new).mine (links_of (pool_view seat.old).put) result }
+    ensures accounted { Accounted F.question F.is_callers L.left L.firm file_limit (F.needs (T.site (first_of hall.now))) (view pass.new).mine (links_of (pool_view seat.old).put) result }
 {
     let mut unserved = unserved;
     for _ in rt.forever() {
         match pool.take(rt, seat) {
             Some(link) => {
-                if !serve_one(rt, alloc, hall, pass, front, file_limit, link, clock) {
+                if !serve_one(rt, alloc, hall, pass, front, tools, file_limit, link, clock) {
                     unserved = unserved.saturating_add(1);
                 }
             }

@@ -9,7 +9,7 @@ mod gathering;
 mod serving;
 
 pub use accepting::accept_all;
-pub use busy::{say_busy, work_busy};
+pub use busy::{refuse_rest, say_busy, work_busy};
 pub use front::Callers;
 pub use gathering::{gather, no_links_are_asked, serve_rest};
 pub use serving::{Served, work_links};

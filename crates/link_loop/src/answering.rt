@@ -91,6 +91,7 @@ fn answer_request<T: Keeps, F: Front<T>, L: Link, C: Clock, R: Wait>(
     hall: &Hall<T>,
     pass: &mut Pass<T>,
     front: &F,
+    tools: &F::Tools,
     link: &mut L,
     clock: &mut C,
     request: Request,
@@ -108,7 +109,7 @@ fn answer_request<T: Keeps, F: Front<T>, L: Link, C: Clock, R: Wait>(
 {
     let close = request.close;
     let moment = clock.now();
-    let routed = match front.route(alloc, moment, request) {
+    let routed = match front.route(tools, alloc, moment, request) {
         Ok(routed) => routed,
         Err(_) => return Err(Unserved::NoMemory),
     };
@@ -125,6 +126,7 @@ fn answer<T: Keeps, F: Front<T>, L: Link, C: Clock, R: Wait>(
     hall: &Hall<T>,
     pass: &mut Pass<T>,
     front: &F,
+    tools: &F::Tools,
     link: &mut L,
     clock: &mut C,
     event: Next,
@@ -146,7 +148,7 @@ fn answer<T: Keeps, F: Front<T>, L: Link, C: Clock, R: Wait>(
         Next::Continue => send(link, continue_text()),
         Next::Refused(refusal) => send_refusal(alloc, link, refusal, buffer),
         Next::Request(request) => answer_request(
-            rt, alloc, hall, pass, front, link, clock, request, buffer,
+            rt, alloc, hall, pass, front, tools, link, clock, request, buffer,
         ),
     }
 }
@@ -158,6 +160,7 @@ pub(crate) fn answer_all<T: Keeps, F: Front<T>, L: Link, C: Clock, R: Wait>(
     hall: &Hall<T>,
     pass: &mut Pass<T>,
     front: &F,
+    tools: &F::Tools,
     link: &mut L,
     clock: &mut C,
     conn: &mut Conn,
@@ -182,7 +185,7 @@ pub(crate) fn answer_all<T: Keeps, F: Front<T>, L: Link, C: Clock, R: Wait>(
             Ok(Next::Need) => return Ok(Pause::Waits),
             Ok(Next::Closed) => return Ok(Pause::Over),
             Ok(event) => if let Err(why) = answer(
-                rt, alloc, hall, pass, front, link, clock, event, buffer,
+                rt, alloc, hall, pass, front, tools, link, clock, event, buffer,
             ) {
                 conn.has_completion();
                 return Err(why);

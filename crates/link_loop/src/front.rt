@@ -37,6 +37,10 @@ pub trait Front<T: Keeps> {
     /// Why a link isn't served on.
     type Cause;
 
+    /// What routing needs beside the front, such as a table of routes. Each thread has its own, so that nothing is asked of it that threads
+    /// would ask.
+    type Tools;
+
     // The site that it was made for.
     ghost site: { Self → T.Site };
 
@@ -52,10 +56,17 @@ pub trait Front<T: Keeps> {
     // What is said to what came back, where the request says whether the connection closes.
     ghost says: { T.Site → T.Back → Bool → Said Self.Cause };
 
+    /// What routing needs beside the front. It takes memory.
+    fn tools(&self, alloc: Global) -> Result<Self::Tools, NoMemory>;
+
+    /// Lets tools go.
+    fn put_away(tools: Self::Tools);
+
     /// What a request comes to at this moment, in seconds since 1970, at most the last second of the year 9999. Its call is fit for
     /// each pass, and asks about nothing that another call opened. NoMemory drops the request.
     fn route(
         &self,
+        tools: &Self::Tools,
         alloc: Global,
         moment: u64,
         request: Request,

@@ -25,6 +25,7 @@ fn serve_with<T: Keeps, F: Front<T>, L: Link, C: Clock, R: Wait>(
     hall: &Hall<T>,
     pass: &mut Pass<T>,
     front: &F,
+    tools: &F::Tools,
     file_limit: u64,
     link: &mut L,
     clock: &mut C,
@@ -42,7 +43,9 @@ fn serve_with<T: Keeps, F: Front<T>, L: Link, C: Clock, R: Wait>(
     let mut conn = Conn::new(alloc, file_limit);
     let mut taken = 0u64;
     'pieces: loop {
-        match answer_all(rt, alloc, hall, pass, front, link, clock, &mut conn, buffer)? {
+        match answer_all(
+            rt, alloc, hall, pass, front, tools, link, clock, &mut conn, buffer,
+        )? {
             Pause::Waits => {}
             Pause::Over => return Ok(LinkEnd::Closed),
         }
@@ -76,7 +79,7 @@ fn serve_with<T: Keeps, F: Front<T>, L: Link, C: Clock, R: Wait>(
 /// failed, all but the last reply were written, and a front of it. Where memory ran out (also for the buffer), all replies were
 /// written, or all but the last. Where a call said that the link isn't served on (`Stopped`), all before it were.
 ///
-/// It takes one buffer of 65,536 bytes, and beside it what `Conn`, the front, a head and a body of at most 16,384 bytes take. A longer
+/// `tools` are those of the front. It takes one buffer of 65,536 bytes, and beside it what `Conn`, the front, a head and a body of at most 16,384 bytes take. A longer
 /// body is written behind its head: that of a file by pieces through the buffer. It waits for turns of the hall.
 pub fn serve<T: Keeps, F: Front<T>, L: Link, C: Clock, R: Wait>(
     rt: &R,
@@ -84,6 +87,7 @@ pub fn serve<T: Keeps, F: Front<T>, L: Link, C: Clock, R: Wait>(
     hall: &Hall<T>,
     pass: &mut Pass<T>,
     front: &F,
+    tools: &F::Tools,
     file_limit: u64,
     link: &mut L,
     clock: &mut C,
@@ -104,6 +108,7 @@ pub fn serve<T: Keeps, F: Front<T>, L: Link, C: Clock, R: Wait>(
             hall,
             pass,
             front,
+            tools,
             file_limit,
             link,
             clock,

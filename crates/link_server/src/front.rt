@@ -14,20 +14,18 @@ use std::alloc::Global;
 use tape_routes::Routes;
 use wire_http::{Reply, Request};
 
-/// The front of an archive: the routes by which requests reach it, and its site.
-#[derive(Drop)]
+/// The front of an archive: its site. Its tools are the routes by which requests reach the archive.
+#[derive(Clone, Copy, Drop)]
 pub struct ArchiveFront<'a> {
     pub(crate) site: &'a ValidSite,
-    pub(crate) routes: Routes,
 }
 
 impl<'a> ArchiveFront<'a> {
-    /// The front of an archive of this site. It takes the memory of the routes, in constant time.
-    pub fn new(alloc: Global, site: &'a ValidSite) -> Result<ArchiveFront<'a>, NoMemory>
-        ensures { IfOk result (λ front. front.site.now ≡ site.now) }
+    /// The front of an archive of this site. It takes no memory and constant time.
+    pub fn new(site: &'a ValidSite) -> ArchiveFront<'a>
+        ensures { result.site.now ≡ site.now }
     {
-        let routes = Routes::new(alloc)?;
-        Ok(ArchiveFront { site, routes })
+        ArchiveFront { site }
     }
 }
 
@@ -35,6 +33,8 @@ impl<'a, M: Told + Drop> Front<Archive<M>> for ArchiveFront<'a> {
     type Question = Question;
 
     type Cause = ();
+
+    type Tools = Routes;
 
     ghost site = { λ f. f.site.now };
 
@@ -46,14 +46,23 @@ impl<'a, M: Told + Drop> Front<Archive<M>> for ArchiveFront<'a> {
 
     ghost says = { says_of };
 
+    fn tools(&self, alloc: Global) -> Result<Routes, NoMemory> {
+        Routes::new(alloc)
+    }
+
+    fn put_away(tools: Routes) {
+        drop(tools);
+    }
+
     fn route(
         &self,
+        tools: &Routes,
         alloc: Global,
         moment: u64,
         request: Request,
     ) -> Result<Routed<ArchiveCall<M>>, NoMemory> {
         callers_are_served::<M>();
-        match call_of(alloc, &self.routes, self.site, moment, request)? {
+        match call_of(alloc, tools, self.site, moment, request)? {
             Called::Call(call) => Ok(Routed::Call(call)),
             Called::Reply(reply) => Ok(Routed::Reply(reply)),
         }

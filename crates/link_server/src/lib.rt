@@ -2,6 +2,7 @@
 //! and the replies are written in their order.
 #![tactic(auto)]
 
+mod callers;
 mod front;
 mod laws;
 mod serving;

@@ -58,13 +58,14 @@ pub fn serve_link<M: Told + Drop, L: Link, C: Clock, R: Wait>(
         Ok(routes) => routes,
         Err(_) => return Err(LinkFault::NoMemory),
     };
-    let front = ArchiveFront { site, routes };
+    let front = ArchiveFront { site };
     match serve(
         rt,
         alloc,
         hall,
         pass,
         &front,
+        &routes,
         site.limits().file,
         link,
         clock,

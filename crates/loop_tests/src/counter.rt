@@ -17,6 +17,8 @@ impl Front<Contents> for Counter {
 
     type Cause = u64;
 
+    type Tools = ();
+
     ghost site = { λ s. tt };
 
     ghost question = { length_in };
@@ -27,7 +29,19 @@ impl Front<Contents> for Counter {
 
     ghost says = { λ s. said };
 
-    fn route(&self, alloc: Global, moment: u64, request: Request) -> Result<Routed<Put>, NoMemory> {
+    fn tools(&self, _alloc: Global) -> Result<(), NoMemory> {
+        Ok(())
+    }
+
+    fn put_away(_tools: ()) {}
+
+    fn route(
+        &self,
+        _tools: &(),
+        alloc: Global,
+        moment: u64,
+        request: Request,
+    ) -> Result<Routed<Put>, NoMemory> {
         if request.body.sum().len == 0 {
             let reply = error_reply(alloc, 404, "nothing", request.close)?;
             return Ok(Routed::Reply(reply));

@@ -38,10 +38,20 @@ fn accepted(rt: &impl Wait, alloc: Global) -> Option<(u64, usize, MemLink)> {
     let (full, mut full_door) = Pool::new(alloc, 1).ok()?;
     let mut listener = listener_of(alloc).ok()?;
     accept_all(rt, &pool, &mut door, &full, &mut full_door, &mut listener).ok()?;
-    no_links_are_asked::<Contents, Counter, MemLink>(&Counter);
+    no_links_are_asked::<Contents, Counter, MemLink>();
     let mut clock = ListClock::new(&[100]);
     let unserved = serve_rest(
-        rt, alloc, &hall, &pool, &Counter, 1_000_000, &mut pass, &mut door, 0, &mut clock,
+        rt,
+        alloc,
+        &hall,
+        &pool,
+        &Counter,
+        &(),
+        1_000_000,
+        &mut pass,
+        &mut door,
+        0,
+        &mut clock,
     );
     let count = hall.close(pass).lengths().len();
     let link = full.take(rt, &mut full_door)?;

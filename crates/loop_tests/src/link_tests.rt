@@ -54,7 +54,15 @@ fn served(
     };
     let mut clock = ListClock::new(&[100]);
     Some(serve(
-        rt, alloc, &hall, &mut pass, &Counter, 1_000_000, link, &mut clock,
+        rt,
+        alloc,
+        &hall,
+        &mut pass,
+        &Counter,
+        &(),
+        1_000_000,
+        link,
+        &mut clock,
     ))
 }
 

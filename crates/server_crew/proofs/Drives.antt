@@ -9,6 +9,9 @@ use Rattle.turn_hall.specs.Calls.{merged}
 use Rattle.link_loop.specs.declared.front.Routed.{Routed}
 use Rattle.drive_turns.specs.Turns.{AreOfSessions}
 use Rattle.link_crew.specs.Accounts.{Accounted, asks_of}
+use Rattle.link_pool.specs.declared.views.Passed.{Passed}
+use Rattle.link_pool.specs.Entries.{links_of}
+use Rattle.link_crew.proofs.Accounts.{none_asked as no_link_asked}
 use Rattle.link_crew.proofs.Counts.{count-left, sum-merged, weight}
 use Rattle.server_crew.specs.Jobs.{AreApart}
 
@@ -38,3 +41,7 @@ module _ {L C B K M : Type 0} (question : C → K) (is_callers : K → Bool) (as
         omega (arith, u, v, w, s, z, c);
     whole = a.whole;
   }
+
+  -- a pass of a drive alone
+  pub only_sessions : (ds : List (Made C B)) (got : List (Passed L)) → AreApart question is_callers asking → AreOfSessions asking ds → got ≡ [] → Accounted question is_callers left firm limit needs ds (links_of got) 0
+  only_sessions ds got apart all g = with_drive [] ds (links_of got) 0 apart all (no_link_asked question is_callers left firm limit needs [] got refl g)

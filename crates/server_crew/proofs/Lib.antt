@@ -1,1 +1,3 @@
 pub mod Drives
+mod Added
+mod Doors

@@ -1,5 +1,5 @@
 -- What a worker is given, and what it gives back.
-use Rattle.std.specs.Prelude.{◌≡◌, ℕ, ◌<◌, Bool, true, false, List, Option, length}
+use Rattle.std.specs.Prelude.{◌≡◌, ℕ, ◌<◌, Bool, true, false, List, [], Option, length}
 use Rattle.cta_site.specs.declared.site.Site.{Site}
 use Rattle.cta_model.specs.declared.asks.Ask.{Ask}
 use Rattle.cta_model.specs.declared.hands.Hand.{Hand}
@@ -16,41 +16,49 @@ use Rattle.turn_hall.specs.declared.room.Room.{Room}
 use Rattle.turn_hall.specs.declared.room.Holder.{Holder}
 use Rattle.turn_hall.specs.Handles.{IsPassOf, first_of, view}
 use Rattle.link_loop.specs.declared.front.Routed.{Routed}
-use Rattle.drive_turns.specs.Turns.{AreOfSessions, is_of_session}
+use Rattle.drive_turns.specs.Turns.{is_of_session}
 use Rattle.link_crew.specs.Accounts.{Accounted}
 use Rattle.link_crew.specs.Seats.{IsSeatOf}
-use Rattle.server_crew.specs.declared.crew.Job.{Job}
-use Rattle.server_crew.specs.declared.crew.Job.TheVariants as job
-use Rattle.server_crew.specs.declared.crew.Crewed.{Crewed}
-use Rattle.server_crew.specs.declared.crew.Crewed.TheVariants as crewed
-
--- a pass of the hall with one seat
-abbrev pub IsOnePass : {T S W E C B P : Type 0} → (T → W) → Room S (View W E C B) (About T) P → Holder S W E C B → Type 0
-IsOnePass site hall pass = IsPassOf site hall pass × (pass.seats ≡ 1)
-
-module _ {T S W E C B P L Q A M K : Type 0} (site : T → W) (hall : Room S (View W E C B) (About T) P) (pool full : Slotted (Option L) (Doing L (PoolView L)) Q A)
-    (asking : ℕ → Ask → Hand M → C) (question : C → K) (is_callers : K → Bool) (left : L → Option (List ℕ)) (firm : L → Bool) (limit : ℕ) (needs : Request → Routed K) where
-  -- a pass with a drive that is not loaded; a pass with a seat at the pool, which account for their links; or a seat at the pool of links that found no room
-  abbrev pub IsJob : {D : Type 0} → (D → DriveView) → (W → Site) → Job (Holder S W E C B) (Pass L (PoolView L)) D → Type 0
-  IsJob seen sites (job.Drive worker number pass drive) =
-      IsOnePass site hall pass × (number < length (sites (site (first_of hall))).drives.items) × ((seen drive).loaded ≡ false) × AreOfSessions asking (view pass).mine
-  IsJob seen sites (job.Links worker pass seat) =
-      IsOnePass site hall pass × IsSeatOf pool seat × Accounted question is_callers left firm limit needs (view pass).mine (links_of (pool_view seat).got) 0
-  IsJob seen sites (job.Busy worker seat) = IsSeatOf full seat
-
-  -- the same of what a worker gives back
-  abbrev pub IsDone : Crewed (Holder S W E C B) (Pass L (PoolView L)) → Type 0
-  IsDone (crewed.Drive pass) = IsOnePass site hall pass × AreOfSessions asking (view pass).mine
-  IsDone (crewed.Links x) =
-      IsOnePass site hall x.pass × IsSeatOf pool x.seat × Accounted question is_callers left firm limit needs (view x.pass).mine (links_of (pool_view x.seat).got) x.unserved
-  IsDone (crewed.Busy seat) = IsSeatOf full seat
+use Rattle.server_crew.specs.declared.post.Post.{Post}
+use Rattle.server_crew.specs.declared.post.Task.{Task}
+use Rattle.server_crew.specs.declared.post.Task.TheVariants as task
+use Rattle.server_crew.specs.declared.post.Job.{Job}
+use Rattle.server_crew.specs.declared.post.Done.{Done}
 
 -- what a session asks is nothing that a caller asks
 abbrev pub AreApart : {C K M : Type 0} → (C → K) → (K → Bool) → (ℕ → Ask → Hand M → C) → Type 0
 AreApart {C} {K} {M} question is_callers asking = (at : ℕ) (a : Ask) (k : Hand M) → is_of_session a ≡ true → is_callers (question (asking at a k)) ≡ false
 
--- how many passes of the hall a worker gives back
-abbrev pub passes_of : {P Q : Type 0} → Crewed P Q → ℕ
-passes_of (crewed.Drive pass) = 1
-passes_of (crewed.Links x) = 1
-passes_of (crewed.Busy seat) = 0
+-- a drive that is not loaded, by its number
+abbrev pub IsTask : {D : Type 0} → (D → DriveView) → ℕ → Task D → Type 0
+IsTask seen drives (task.Drive number drive) = (number < drives) × ((seen drive).loaded ≡ false)
+IsTask seen drives task.Links = Unit {0}
+IsTask seen drives task.Busy = Unit {0}
+
+module _ {T S W E C B P : Type 0} (site : T → W) (hall : Room S (View W E C B) (About T) P) where
+  -- a pass of the hall with one seat
+  abbrev pub IsOnePass : Holder S W E C B → Type 0
+  IsOnePass pass = IsPassOf site hall pass × (pass.seats ≡ 1)
+
+  -- the same, of a pass that has made no call
+  abbrev pub IsNewPass : Holder S W E C B → Type 0
+  IsNewPass pass = IsOnePass pass × ((view pass).mine ≡ [])
+
+  module _ {L Q A : Type 0} (pool busy : Slotted (Option L) (Doing L (PoolView L)) Q A) where
+    -- a pass of the hall with one seat, and a seat at each pool
+    pub record IsPost (post : Post (Holder S W E C B) (Pass L (PoolView L))) : Type 0 where
+      pub pass : IsOnePass post.pass
+      pub seat : IsSeatOf pool post.seat
+      pub full_seat : IsSeatOf busy post.full_seat
+
+    -- the post of a worker that has made no call and taken no link, and its task
+    pub record IsJob {D : Type 0} (seen : D → DriveView) (drives : ℕ) (job : Job (Holder S W E C B) (Pass L (PoolView L)) D) : Type 0 where
+      pub post : IsPost job.post
+      pub calls : (view job.post.pass).mine ≡ []
+      pub links : (pool_view job.post.seat).got ≡ []
+      pub task : IsTask seen drives job.task
+
+    -- the post of a worker whose pass accounts for the links that it took
+    pub record IsDone {K : Type 0} (question : C → K) (is_callers : K → Bool) (left : L → Option (List ℕ)) (firm : L → Bool) (limit : ℕ) (needs : Request → Routed K) (done : Done (Holder S W E C B) (Pass L (PoolView L))) : Type 0 where
+      pub post : IsPost done.post
+      pub accounted : Accounted question is_callers left firm limit needs (view done.post.pass).mine (links_of (pool_view done.post.seat).got) done.unserved

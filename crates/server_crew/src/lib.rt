@@ -5,8 +5,9 @@
 mod beside;
 mod crew;
 mod gathering;
+mod muster;
+mod post;
+mod serving;
 mod threads;
 
-pub use crew::{Crewed, Job, Place};
-pub use gathering::gather_crew;
-pub use threads::{Work, run_crew};
+pub use serving::{Served, serve_hall};

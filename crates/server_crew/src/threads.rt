@@ -12,18 +12,19 @@ use std::alloc::AllocError;
 use std::sync::Wait;
 use std::thread::Threads;
 
-/// What workers do: each has a job, and gives something back at its end.
-pub trait Work<J, Y> {
+/// What workers do at a hall and two pools: each has a job, and gives something back at its end. It names neither halls nor pools, so that where
+/// threads are started it need not be known what they are.
+pub trait Work<H, O, J, Y> {
     // Whether this is a job.
-    ghost is_job: { Self → J → Type 0 };
+    ghost is_job: { Self → H → O → O → J → Type 0 };
 
     // What a worker may give back.
-    ghost is_done: { Self → Y → Type 0 };
+    ghost is_done: { Self → H → O → O → Y → Type 0 };
 
     /// Does one job, whatever others do meanwhile. It may wait.
-    fn work<R: Wait>(&self, rt: &R, job: J) -> Y
-        requires { is_job self.now job }
-        ensures { is_done self.entry.now result };
+    fn work<R: Wait>(&self, rt: &R, hall: &H, pool: &O, full: &O, job: J) -> Y
+        requires { is_job self.now hall.now pool.now full.now job }
+        ensures { is_done self.entry.now hall.entry.now pool.entry.now full.entry.now result };
 }
 
 /// Runs workers in threads of their own, each with a job, and accepts links beside them, until the listener ends or fails and each worker has
@@ -31,14 +32,19 @@ pub trait Work<J, Y> {
 /// It waits for all of them.
 pub fn run_crew<
     R: Threads + Wait + Sync,
+    H: Sync,
+    O: Sync,
     J: Send + Drop,
     Y: Send + Drop,
-    W: Work<J, Y> + Sync,
+    W: Work<H, O, J, Y> + Sync,
     K: Link + Send + Drop,
     L: Listener<L = K> + Send,
 >(
     rt: &R,
     work: &W,
+    hall: &H,
+    seats: &O,
+    full_seats: &O,
     jobs: Vec<J>,
     pool: &Pool<K>,
     door: &mut PoolPass<K>,
@@ -46,11 +52,11 @@ pub fn run_crew<
     full_door: &mut PoolPass<K>,
     listener: &mut L,
 ) -> (Result<(), Failed>, Result<Vec<Y>, AllocError>)
-    requires jobs { All (W.is_job work.now) jobs.items }
+    requires jobs { All (W.is_job work.now hall.now seats.now full_seats.now) jobs.items }
     requires door { IsPassOf pool.now.queue door.old × ((view door.old).door ≡ true) }
     requires full { IsPassOf full.now.queue full_door.old × ((view full_door.old).door ≡ true) }
     ensures count { IfOk result.1 (λ v. vec_len v ≡ vec_len jobs) }
-    ensures done { IfOk result.1 (λ v. All (W.is_done work.now) v.items) }
+    ensures done { IfOk result.1 (λ v. All (W.is_done work.now hall.now seats.now full_seats.now) v.items) }
     ensures door { IsPassOf pool.now.queue door.new × IsSameDoor (view door.old) (view door.new) }
     ensures full { IsPassOf full.now.queue full_door.new × IsSameDoor (view full_door.old) (view full_door.new) }
     ensures ended { IfOk result.0 (λ _. L.ended listener.new ≡ true) }
@@ -60,7 +66,7 @@ pub fn run_crew<
     let (done, accepted) = beside(
         rt,
         jobs,
-        &|job| work.work(rt, job),
+        &|job| work.work(rt, hall, seats, full_seats, job),
         &mut || -> Result<(), Failed>
             requires { IsPassOf pool.now.queue door.now × ((view door.now).door ≡ true) × IsPassOf full.now.queue full_door.now × ((view full_door.now).door ≡ true) }
             ensures { IsPassOf pool.entry.now.queue door.exit.now × IsSameDoor (view door.entry.now) (view door.exit.now)

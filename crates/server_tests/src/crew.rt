@@ -87,10 +87,14 @@ fn served<R: Wait, T: Keeps, F: Front<T>, L: Link>(
 {
     let mut pass = pass;
     let mut link = link;
+    let Ok(tools) = front.tools(alloc) else {
+        return (pass, link, false);
+    };
     let mut clock = ListClock::new(&[100]);
     let end = serve(
-        rt, alloc, hall, &mut pass, front, file_limit, &mut link, &mut clock,
+        rt, alloc, hall, &mut pass, front, &tools, file_limit, &mut link, &mut clock,
     );
+    F::put_away(tools);
     (pass, link, is_ended::<T, F>(end))
 }
 

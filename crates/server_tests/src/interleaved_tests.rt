@@ -4,10 +4,10 @@ ghost use Rattle.archive.specs.States.{AreFirstMedia};
 use crate::archives::{archive_of, link_of, media_of, site_of};
 use crate::crew::over_one_hall;
 use crate::piece_link::PieceLink;
-use crate::site_front::SiteFront;
 use crate::told::{has_places, is_each_once, letters_of, told_of};
 use cta_model::{Entry, Told};
 use cta_site::ValidSite;
+use link_server::ArchiveFront;
 use std::alloc::Global;
 use std::hash::RandomState;
 use std::sync::Wait;
@@ -84,7 +84,7 @@ fn found<R: Threads + Wait + Sync, M: Told + Drop + Send>(
         rt,
         alloc,
         archive,
-        &SiteFront { site },
+        &ArchiveFront::new(site),
         site.limits().file,
         first,
         other,

@@ -12,6 +12,4 @@ mod link_tests;
 #[cfg(test)]
 mod piece_link;
 #[cfg(test)]
-mod site_front;
-#[cfg(test)]
 mod told;

@@ -3,7 +3,7 @@ use Rattle.std.proofs.Common.{◌≡◌}
 use Rattle.crossbeam_queue.specs.Passes.{view as pool_view, IsPassOf as IsPoolPassOf}
 use Rattle.link_pool.specs.Entries.{links_of}
 use Rattle.link_pool.specs.Pooled.{whole}
-use Rattle.turn_hall.specs.Handles.{IsPassOf, view}
+use Rattle.turn_hall.specs.Handles.{IsPassOf, first_of, view}
 use Rattle.link_crew.specs.Accounts.{Accounted}
 use Rattle.link_crew.proofs.gathering.serve_rest.Given as goal
 
@@ -16,5 +16,5 @@ invariant-loop g l = record {
   seat : IsPoolPassOf l.pool.queue l.seat;
   parts : (pool_view l.seat).parts ≡ whole;
   put : (pool_view l.seat).put ≡ (pool_view l.fn.seat).put;
-  accounted : Accounted g.F.Front.question g.F.Callers.is_callers g.L.Link.left g.L.Link.firm l.file_limit (g.F.Front.needs (g.F.Front.site l.front)) (view l.pass).mine (links_of (pool_view l.seat).got) l.unserved;
+  accounted : Accounted g.F.Front.question g.F.Callers.is_callers g.L.Link.left g.L.Link.firm l.file_limit (g.F.Front.needs (g.T.Keeps.site (first_of l.hall))) (view l.pass).mine (links_of (pool_view l.seat).got) l.unserved;
 }
