@@ -1,0 +1,6 @@
+mod Firsts
+mod ToldAsks
+mod ToldAnswers
+mod ToldRecords
+mod Fronts
+mod Alone

@@ -1,0 +1,5 @@
+pub mod Asks
+pub mod Answers
+pub mod Records
+pub mod Reads
+pub mod Laws

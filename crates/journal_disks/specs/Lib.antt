@@ -1,0 +1,5 @@
+pub mod Events
+pub mod Folders
+pub mod Machine
+pub mod Memory
+pub mod Past
