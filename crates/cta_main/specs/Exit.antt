@@ -1,7 +1,7 @@
 -- How the program ends, and which file it reads.
 use Rattle.std.specs.Prelude.{◌≡◌, ℕ, List, [], ◌∷◌}
-use Rattle.replay.specs.declared.status.Status.{Status}
-use Rattle.replay.specs.declared.status.Status.TheVariants.{Ok, Usage, Site, Script, ReadFault, WriteFault, NoMemory, TooLong, ListenFault}
+use Rattle.archive_opening.specs.declared.status.Status.{Status}
+use Rattle.archive_opening.specs.declared.status.Status.TheVariants.{Ok, Usage, Site, Script, ReadFault, WriteFault, NoMemory, TooLong, ListenFault}
 
 -- the number that the process ends with; 1, 10 and 11 are not used
 abbrev pub exit_number : Status → ℕ

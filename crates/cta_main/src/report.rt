@@ -2,7 +2,7 @@
 ghost use Rattle.std.specs.Prelude.{◌≡◌};
 ghost use Rattle.cta_main.specs.Exit.{exit_number};
 
-use replay::Status;
+use archive_opening::Status;
 use std::io::Eprint;
 
 // The number that the process ends with.

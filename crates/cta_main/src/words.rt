@@ -4,8 +4,8 @@ ghost use Rattle.cta_words.specs.Words.{Spells};
 ghost use Rattle.cta_words.specs.declared.form.Form.{Form};
 ghost use Rattle.cta_main.specs.Exit.{site_word};
 
+use archive_opening::Status;
 use cta_words::{Form, WordsError, read_words};
-use replay::Status;
 use std::alloc::Global;
 use std::env;
 use std::io::ErrorKind;

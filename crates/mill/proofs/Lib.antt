@@ -1,0 +1,3 @@
+mod Drives
+mod Sums
+mod Tops

@@ -1,0 +1,2 @@
+pub mod Milled
+pub mod Top
