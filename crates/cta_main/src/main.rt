@@ -3,6 +3,7 @@
 //! folder. For every status other than 0 it prints one line on standard error, and ends with the status's number.
 #![tactic(auto)]
 
+mod bell;
 mod media_folder;
 mod milling;
 mod replaying;

@@ -30,11 +30,8 @@ use std::time::Duration;
 // How long a link may say nothing, in seconds.
 const SILENCE: u64 = 30;
 
-// How long an idle worker pauses, in milliseconds: the longer the more there are, so that one of them looks for a link every 2 milliseconds. So
-// 64 workers take less than 1% of a processor while they wait.
-fn pause_of(workers: u32) -> u64 {
-    u64::from(workers).saturating_mul(2).clamp(25, 100)
-}
+// How long an idle worker of a drive pauses, in milliseconds, and the one that tells links that the server is busy. Workers of links are woken.
+const PAUSE: u64 = 50;
 
 // Serves by the words behind the program's name, prints the line of the status, and gives the number that the process is to end with.
 pub(crate) fn serve_with<
@@ -138,7 +135,7 @@ fn serve_words<
     let address = address_of(rt, words, &lock);
     let listener = TcpDoor::open(rt, address, Duration::from_secs(SILENCE));
     let mut door = WatchedDoor::new(rt, listener, &muster);
-    let pause = PauseGate::new(rt, Duration::from_millis(pause_of(words.workers)));
+    let pause = PauseGate::new(rt, Duration::from_millis(PAUSE));
     let mut bench = ToldBench {
         rt: files,
         bench: FileBench::new(alloc, files, Text::of(folder)),

@@ -2,8 +2,10 @@
 // link comes any more.
 ghost use Rattle.std.specs.Prelude.{◌≡◌};
 
+use crate::bell::Bell;
 use outside::{Failed, Gate, Listener};
 use std::io::Eprint;
+use std::sync::Wait;
 use std::sync::atomic::{AtomicBool, AtomicU32, AtomicU64, Ordering};
 use std::thread;
 use std::time::{Clock, Duration, Instant};
@@ -22,23 +24,27 @@ pub(crate) struct Muster {
     // Which workers have asked the gate, by number, a bit each, and how many these are.
     asked: [AtomicU64; 3],
     count: AtomicU32,
-    // How many there are besides those of drives, and how many drives were made.
+    // How many there are for links, and how many drives were made. Workers of drives have the first numbers, and the one that tells links that
+    // the server is busy the last.
     workers: u32,
     drives: AtomicU32,
     begin: Option<Instant>,
+    // What wakes workers of links.
+    bell: Bell,
 }
 
 impl Muster {
-    // A muster of so many workers of links, with one that tells links that the server is busy, and of the drives that are made yet.
+    // A muster of so many workers of links, of the one that tells links that the server is busy, and of the drives that are made yet.
     pub(crate) fn new<R: Clock>(rt: &R, workers: u32) -> Muster {
         Muster {
             open: AtomicBool::new(true),
             complete: AtomicBool::new(false),
             asked: [AtomicU64::new(0), AtomicU64::new(0), AtomicU64::new(0)],
             count: AtomicU32::new(0),
-            workers: workers.saturating_add(1),
+            workers,
             drives: AtomicU32::new(0),
             begin: Instant::now(rt).ok(),
+            bell: Bell::new(),
         }
     }
 
@@ -50,6 +56,7 @@ impl Muster {
     // Lets no link come any more.
     fn shut(&self) {
         self.open.store(false, Ordering::SeqCst);
+        self.bell.ring_for_all();
     }
 
     fn is_open(&self) -> bool {
@@ -64,9 +71,19 @@ impl Muster {
                 self.count.fetch_add(1, Ordering::SeqCst);
             }
         }
-        let all = u64::from(self.workers) + u64::from(self.drives.load(Ordering::SeqCst));
+        let all = u64::from(self.workers) + u64::from(self.drives.load(Ordering::SeqCst)) + 1;
         if self.is_open() && u64::from(self.count.load(Ordering::SeqCst)) >= all {
             self.complete.store(true, Ordering::SeqCst);
+        }
+    }
+
+    // The place of a worker among those of links; None where it is none of them.
+    fn place_of(&self, worker: u32) -> Option<u32> {
+        let place = worker.checked_sub(self.drives.load(Ordering::SeqCst))?;
+        if place < self.workers {
+            Some(place)
+        } else {
+            None
         }
     }
 
@@ -94,13 +111,15 @@ impl Muster {
     }
 }
 
-// A listener that waits for the workers of a muster first, and shuts it once no link comes any more.
+// A listener that waits for the workers of a muster first, wakes one of them for each link, and shuts it once no link comes any more.
 #[derive(Drop)]
 pub(crate) struct WatchedDoor<'a, R, L> {
     rt: &'a R,
     listener: L,
     muster: &'a Muster,
     faults: u64,
+    // Whether a link was told that no worker was woken for.
+    is_told: bool,
 }
 
 impl<'a, R, L> WatchedDoor<'a, R, L> {
@@ -110,6 +129,7 @@ impl<'a, R, L> WatchedDoor<'a, R, L> {
             listener,
             muster,
             faults: 0,
+            is_told: false,
         }
     }
 }
@@ -135,8 +155,13 @@ impl<R: Clock + Eprint, L: Listener> Listener for WatchedDoor<'_, R, L> {
             self.faults = self.faults.saturating_add(1);
             return Err(Failed);
         }
+        // Who asks for the next link has put the last one where workers look.
+        if self.is_told {
+            self.muster.bell.ring();
+        }
         let next = self.listener.next();
-        if !matches!(next, Ok(Some(_))) {
+        self.is_told = matches!(next, Ok(Some(_)));
+        if !self.is_told {
             self.muster.shut();
         }
         if next.is_err() {
@@ -146,7 +171,8 @@ impl<R: Clock + Eprint, L: Listener> Listener for WatchedDoor<'_, R, L> {
     }
 }
 
-// A gate that tells each worker to stop once no link comes any more.
+// A gate that tells each worker to stop once no link comes any more. An idle worker of links waits for the bell of the muster, any other as the
+// gate below lets it.
 #[derive(Drop)]
 pub(crate) struct DoorGate<'a, R, G> {
     rt: &'a R,
@@ -160,12 +186,18 @@ impl<'a, R, G> DoorGate<'a, R, G> {
     }
 }
 
-impl<R: Clock, G: Gate> Gate for DoorGate<'_, R, G> {
+impl<R: Clock + Wait, G: Gate> Gate for DoorGate<'_, R, G> {
     fn pass(&self, worker: u32, idle: bool) -> bool {
         if !self.muster.complete.load(Ordering::SeqCst) {
             self.muster.note(worker);
             self.muster.lose_patience(self.rt);
         }
-        self.muster.is_open() && self.gate.pass(worker, idle)
+        match self.muster.place_of(worker) {
+            Some(place) if self.muster.is_open() => {
+                self.muster.bell.attend(self.rt, place as usize, idle);
+                self.muster.is_open()
+            }
+            _ => self.muster.is_open() && self.gate.pass(worker, idle),
+        }
     }
 }
