@@ -6,6 +6,7 @@ mod asks;
 mod bodies;
 mod contents;
 mod entries;
+mod journaled;
 mod kept;
 mod laws;
 mod reading;
