@@ -1,5 +1,5 @@
 """The thirty rules of a site file once more, in the order of docs/SITE.md, for tests/fuzz. It shares no code with the program."""
-import json
+import copy, json
 
 NAME = set(b"ABCDEFGHIJKLMNOPQRSTUVWXYZabcdefghijklmnopqrstuvwxyz0123456789_-.")
 PB = 1 << 50
@@ -189,11 +189,11 @@ def changed(data, dice):
                 continue
             kind = dice.randrange(7)
             if kind == 0: del within[key]
-            elif kind == 1: within[key] = dice.choice(VALUES)
+            elif kind == 1: within[key] = copy.deepcopy(dice.choice(VALUES))
             elif kind == 2 and isinstance(within, list): within.insert(dice.randrange(len(within) + 1), json.loads(json.dumps(within[key])))
             elif kind == 3 and type(within[key]) is int: within[key] += dice.choice((-1, 1, 1 << 20))
             elif kind == 4 and isinstance(within[key], str): within[key] = within[key][:-1] + dice.choice("aZ1/ .é\x7f")
             elif kind == 5 and isinstance(within, dict): within[dice.choice(("alter", "name", "vo", "number", "x"))] = within[key]
-            else: within[key] = dice.choice(VALUES)
+            else: within[key] = copy.deepcopy(dice.choice(VALUES))
             break
     return json.dumps(site, separators=(",", ":"), ensure_ascii=dice.random() < 0.5).encode("utf-8", "surrogatepass")
