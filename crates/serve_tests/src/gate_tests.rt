@@ -26,7 +26,7 @@ const NO_X: &str =
 const ASKS: u64 = 10_000;
 
 // A link that puts a file and asks where it lies, and one that asks for a file that isn't there.
-fn two_links(alloc: Global, tally: &Tally) -> Result<Vec<ToldLink<'_>>, AllocError> {
+pub(crate) fn two_links(alloc: Global, tally: &Tally) -> Result<Vec<ToldLink<'_>>, AllocError> {
     let mut links = Vec::new(alloc);
     links.push(link_of(alloc, &[PUT, ASK], PUT_AND_ASKED, tally)?)?;
     links.push(link_of(alloc, &[ASK_X], NO_X, tally)?)?;

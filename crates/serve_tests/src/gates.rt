@@ -95,3 +95,54 @@ impl Gate for CountingGate {
         self.asked.fetch_add(1, Ordering::SeqCst) < self.most
     }
 }
+
+// A gate that lets workers go on until a listener was asked so often, and then so many times more. It notes which workers have asked since.
+#[derive(Drop)]
+pub(crate) struct LastingGate {
+    listened: Arc<AtomicU64, Global>,
+    calls: u64,
+    more: u64,
+    asked: AtomicU64,
+    since: AtomicU64,
+    // The workers, by number, a bit each.
+    workers: AtomicU64,
+}
+
+impl LastingGate {
+    pub(crate) fn new(listened: Arc<AtomicU64, Global>, calls: u64, more: u64) -> LastingGate {
+        LastingGate {
+            listened,
+            calls,
+            more,
+            asked: AtomicU64::new(0),
+            since: AtomicU64::new(0),
+            workers: AtomicU64::new(0),
+        }
+    }
+
+    // How often it was asked, and how often of that since the listener was asked so often.
+    pub(crate) fn counts(&self) -> (u64, u64) {
+        (
+            self.asked.load(Ordering::SeqCst),
+            self.since.load(Ordering::SeqCst),
+        )
+    }
+
+    // Which workers have asked since, a bit each.
+    pub(crate) fn workers(&self) -> u64 {
+        self.workers.load(Ordering::SeqCst)
+    }
+}
+
+impl Gate for LastingGate {
+    fn pass(&self, worker: u32, _idle: bool) -> bool {
+        self.asked.fetch_add(1, Ordering::SeqCst);
+        if self.listened.load(Ordering::SeqCst) < self.calls {
+            thread::yield_now();
+            return true;
+        }
+        self.workers
+            .fetch_or(1u64 << (worker % 64), Ordering::SeqCst);
+        self.since.fetch_add(1, Ordering::SeqCst) < self.more
+    }
+}
