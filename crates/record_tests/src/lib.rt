@@ -9,5 +9,3 @@ mod put_tests;
 mod puts;
 #[cfg(test)]
 mod records;
-#[cfg(test)]
-mod variant_tests;
