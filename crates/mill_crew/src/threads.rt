@@ -55,7 +55,7 @@ fn run_told<
 }
 
 // Does all jobs of two lists at once, each in a thread of its own. Once all of the first list are done, or were lost as memory ran out, it says
-// so: those of the second list may wait for that.
+// so: those of the second list may wait for that. So where the machine gives no thread, those of the first list are done first.
 pub(crate) fn run_both<
     R: Threads + Wait + Sync,
     H: Sync,
@@ -75,15 +75,17 @@ pub(crate) fn run_both<
     ensures first { IfOk result.0 (λ v. All (W.is_done work.now hall.now) v.items) }
     ensures second { IfOk result.1 (λ v. All (W.is_done work.now hall.now) v.items) }
 {
-    join(
+    // What `join` is handed first runs last where no thread can be made for it.
+    let (second, first) = join(
         rt,
-        || -> Result<Vec<Y>, AllocError>
-            requires { IsSync R.row × IsSync H.row × IsSync W.row × IsSend J.row × IsSend Y.row × All (W.is_job work.now hall.now) first.items }
-            ensures { IfOk result (λ v. All (W.is_done work.entry.now hall.entry.now) v.items) }
-        { run_told(rt, work, hall, first, ended) },
         || -> Result<Vec<Y>, AllocError>
             requires { IsSync R.row × IsSync H.row × IsSync W.row × IsSend J.row × IsSend Y.row × All (W.is_job work.now hall.now) second.items }
             ensures { IfOk result (λ v. All (W.is_done work.entry.now hall.entry.now) v.items) }
         { run_all(rt, work, hall, second) },
-    )
+        || -> Result<Vec<Y>, AllocError>
+            requires { IsSync R.row × IsSync H.row × IsSync W.row × IsSend J.row × IsSend Y.row × All (W.is_job work.now hall.now) first.items }
+            ensures { IfOk result (λ v. All (W.is_done work.entry.now hall.entry.now) v.items) }
+        { run_told(rt, work, hall, first, ended) },
+    );
+    (first, second)
 }
