@@ -17,6 +17,7 @@ mod memory_sink;
 mod memory_source;
 mod open_gate;
 mod pause_gate;
+mod reading;
 mod stream;
 mod stream_door;
 mod stream_link;

@@ -6,6 +6,7 @@ ghost use Rattle.outside.specs.Causes.{HasCause};
 ghost use Rattle.outside.specs.Streams.{SendsWhole, WritesWhole};
 
 use crate::drain::drain;
+use crate::reading::read_some;
 use crate::writing::write_whole;
 use crate::{Failed, Link};
 use std::io;
@@ -67,7 +68,8 @@ impl<S: Read + Write + OpenStream + Drop, R: Clock> Link for StreamLink<'_, S, R
 
     ghost firm = { λ _. false };
 
-    /// Gives the bytes that the connection gives. It fails where the connection failed.
+    /// Gives the bytes that the connection gives. It fails where the connection failed; a signal doesn't end it, unless it cuts off
+    /// 64 reads in a row.
     fn read(&mut self, to: &mut [u8]) -> Result<usize, Failed>
         ensures bound { ReadsAtMost result to.new }
         ensures bytes { ReadConsumes None None result to.new }
@@ -79,7 +81,7 @@ impl<S: Read + Write + OpenStream + Drop, R: Clock> Link for StreamLink<'_, S, R
         ensures none { IsNone (connection self.old) → IsErr result }
     {
         if let Some(stream) = &mut self.stream {
-            if let Ok(count) = stream.read(to) {
+            if let Ok(count) = read_some(stream, to) {
                 return Ok(count);
             }
         }
@@ -87,7 +89,8 @@ impl<S: Read + Write + OpenStream + Drop, R: Clock> Link for StreamLink<'_, S, R
         Err(Failed)
     }
 
-    /// Writes the piece to the connection. It fails where the connection failed or took nothing.
+    /// Writes the piece to the connection. It fails where the connection failed or took nothing; a signal doesn't end it, unless it cuts
+    /// off 64 writes in a row.
     fn write_all_of(&mut self, piece: &[u8]) -> Result<(), Failed>
         ensures bytes { SendsWhole None None result piece.now }
         ensures cause { HasCause (connection_write_faults self.old) (connection_write_faults self.new) result }

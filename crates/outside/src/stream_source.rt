@@ -4,6 +4,7 @@ ghost use Rattle.std.specs.Io.{ReadsAtMost};
 ghost use Rattle.std.specs.Io.KnownBytes.{ReadConsumes};
 ghost use Rattle.outside.specs.Causes.{HasCause};
 
+use crate::reading::read_some;
 use crate::{Failed, Source};
 use std::alloc::{AllocError, Global};
 use std::io::{BufReader, Read};
@@ -58,7 +59,8 @@ impl<R: Read> Source for StreamSource<R> {
 
     ghost faults = { λ s. stream_read_faults s };
 
-    /// Gives the bytes that the reader gives, in their order. It fails where the reader failed.
+    /// Gives the bytes that the reader gives, in their order. It fails where the reader failed; a signal doesn't end it, unless it cuts
+    /// off 64 reads in a row.
     fn read(&mut self, to: &mut [u8]) -> Result<usize, Failed>
         ensures bound { ReadsAtMost result to.new }
         ensures bytes { ReadConsumes (stream_left R.remaining self.old) (stream_left R.remaining self.new) result to.new }
@@ -67,7 +69,7 @@ impl<R: Read> Source for StreamSource<R> {
         ensures none { IsNone (stream_reader self.old) → IsErr result }
     {
         if let Some(reader) = &mut self.reader {
-            if let Ok(count) = reader.read(to) {
+            if let Ok(count) = read_some(reader, to) {
                 return Ok(count);
             }
         }
