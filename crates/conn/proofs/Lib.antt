@@ -11,3 +11,4 @@ pub mod Tails
 pub mod Walks
 pub mod Completions
 pub mod NoBytes
+pub mod Waitings

@@ -3,6 +3,7 @@ pub mod Cut
 pub mod Reading
 pub mod Held
 pub mod Stands
+pub mod Waiting
 pub mod Walking
 pub mod Examples
 pub mod Unique

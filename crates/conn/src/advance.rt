@@ -2,6 +2,7 @@
 ghost use Rattle.std.specs.Prelude.{◌≡◌, ℕ, List, Ok, IfOk};
 ghost use Rattle.conn.specs.Cut.{Event};
 ghost use Rattle.conn.specs.Held.{Leaves};
+ghost use Rattle.conn.specs.Waiting.{BodyRests, Rests};
 ghost use Rattle.conn.specs.Stands.{StandsAt, Advances, Within, BodySteps, BodyStepWithin, AdvanceWithin, AdvanceLess, IsFinished};
 ghost use Rattle.conn.specs.declared.state.Advance.TheVariants as Advance;
 ghost use Rattle.conn.specs.declared.next.Next.TheVariants as Next;
@@ -29,6 +30,7 @@ fn advance_head(
     ensures within { IfOk result (AdvanceWithin rest.now) }
     ensures less { IfOk result (AdvanceLess rest.now state.old state.new) }
     ensures leaves { Leaves rest.now state.new result }
+    ensures rests { IfOk result (Rests limit rest.now state.new) }
 {
     match read_head(alloc, rest, limit)? {
         HeadRead::Need => Ok(Advance::Gives(0, Next::Need)),
@@ -80,6 +82,7 @@ fn advance_body(rest: &[u8], mut body: Collected) -> BodyStep
     ensures steps { (limit : ℕ) (fed : List ℕ) (given : List Event) → Within limit body rest.now fed given
         → BodySteps limit rest.now result fed given }
     ensures within { BodyStepWithin rest.now result }
+    ensures rests { (limit : ℕ) → BodyRests limit rest.now result }
 {
     let mut place = body.place;
     match go_on(rest, &mut place) {
@@ -119,6 +122,7 @@ pub(crate) fn advance(
     ensures within { IfOk result (AdvanceWithin rest.now) }
     ensures less { IfOk result (AdvanceLess rest.now state.old state.new) }
     ensures leaves { Leaves rest.now state.new result }
+    ensures rests { IfOk result (Rests limit rest.now state.new) }
     ensures shut { state.old ≡ State.Shut → (result ≡ Ok (Advance.Gives 0 Next.Closed)) × (state.new ≡ State.Shut) }
 {
     match mem::replace(state, State::Shut) {

@@ -1,5 +1,5 @@
 // One connection: its bytes come in any pieces, and its requests go out.
-ghost use Rattle.std.specs.Prelude.{◌≡◌, Ok, ◌≤◌, ◌<◌, ◌+◌, ◌*◌, ◌++◌, [], IfOk, IsOk, OnOk, ℕ, List, length, MatchResult};
+ghost use Rattle.std.specs.Prelude.{◌≡◌, Ok, ◌≤◌, ◌<◌, ◌+◌, ◌*◌, ◌++◌, [], IfOk, IsOk, OnOk, ℕ, List, length, min, ◌^◌, ◌-◌, MatchResult};
 ghost use Rattle.conn.specs.Cut.{Event};
 ghost use Rattle.conn.specs.Held.{IsOver, held};
 
@@ -31,6 +31,7 @@ pub struct Conn {
 
 impl Conn {
     ghost use Rattle.conn.specs.Stands.{Stands, GivesNext, HasCompletion, HasRoom, Holds, IsShut, UnlessLast, buffered, capacity, left, limit_of, rest_of};
+    ghost use Rattle.conn.specs.Waiting.{WaitsWith, held_by};
     ghost use Rattle.conn.specs.declared.next.Next.TheVariants as Next;
 
     /// A connection that was fed nothing. A file may have `file_limit` bytes. It takes no memory.
@@ -88,6 +89,7 @@ impl Conn {
         ensures shut { IsShut self.old → (result ≡ Ok Next.Closed) × IsShut self.new }
         ensures less { IfOk result (λ n. UnlessLast n (left self.new < left self.old)) }
         ensures holds { IfOk result (λ n. Holds n self.new) }
+        ensures waits { (fed : List ℕ) (given : List Event) → Stands self.old fed given → IfOk result (λ n. WaitsWith n self.new fed given) }
         ensures fewer { buffered self.new ≤ buffered self.old }
         ensures limit { limit_of self.new ≡ limit_of self.old }
     {
@@ -115,6 +117,21 @@ impl Conn {
             State::InBody(body) => body_completion(self.limit, body, rest),
             State::Over => {}
             State::Shut => {}
+        }
+    }
+
+    /// How many bytes of an unfinished request it holds: all those of a head that isn't whole; behind the head, those of the body, and what
+    /// has come of a chunk line, of a chunk's end or of a trailer. Bytes that `next` hasn't looked at yet count too, so it says no more than
+    /// that where `next` answered `Need` last: it is then at most 32,768 more than the longest body. 0 once a refusal or a closing request was
+    /// given, or `close` was called. It takes no memory, and constant time.
+    pub fn held(&self) -> u64
+        ensures { result ≡ min (held_by self.now) (2 ^ 64 - 1) }
+    {
+        let unread = self.buffer.unread().len() as u64;
+        match &self.state {
+            State::AtHead => unread,
+            State::InBody(body) => body.maker.len().saturating_add(unread),
+            State::Over | State::Shut => 0,
         }
     }
 

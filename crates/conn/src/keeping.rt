@@ -3,6 +3,7 @@ ghost use Rattle.std.specs.Prelude.{◌≡◌, ◌≤◌, ℕ, List, length};
 ghost use Rattle.conn.specs.Cut.{Event};
 ghost use Rattle.conn.specs.Held.{HoldsWith, IsOver, LeavesWith, held, unread};
 ghost use Rattle.conn.specs.Stands.{Gives};
+ghost use Rattle.conn.specs.Waiting.{RestsWith};
 
 use crate::buffer::Buffer;
 use crate::next::Next;
@@ -13,6 +14,7 @@ pub(crate) fn let_go(buffer: &mut Buffer, state: &State, next: &Next)
     requires { LeavesWith next.now (unread buffer.old) state.now }
     ensures gives { (limit : ℕ) (fed : List ℕ) (given : List Event) → Gives limit next.now state.now (unread buffer.old) fed given
         → Gives limit next.now state.now (unread buffer.new) fed given }
+    ensures rests { (limit : ℕ) → RestsWith next.now limit state.now (unread buffer.old) → RestsWith next.now limit state.now (unread buffer.new) }
     ensures less { length (unread buffer.new) ≤ length (unread buffer.old) }
     ensures holds { HoldsWith next.now buffer.new }
     ensures fewer { held buffer.new ≤ held buffer.old }

@@ -196,3 +196,30 @@ fn room_made(rt: HostRuntime) {
         b"GET/a=; ".as_slice()
     );
 }
+
+// Pieces of one connection, and how many bytes it holds behind each: of a head, behind the head, of a body of two chunks, of a chunk's end and of
+// a trailer, and of the next head.
+const HELD: [(&[u8], u64); 8] = [
+    (b"PUT /data/a HTTP/1.1\r\n", 22),
+    (b"host: t\r\ntransfer-encoding: chunked\r\n\r\n", 0),
+    (b"5", 1),
+    (b"\r\nhel", 3),
+    (b"lo\r", 6),
+    (b"\n4\r\nwide\r\n0\r\n", 9),
+    (b"a: b", 13),
+    (b"\r\n\r\nGET", 3),
+];
+
+// What bytes a connection holds behind each piece.
+#[test]
+fn bytes_held(rt: HostRuntime) {
+    let alloc = rt.alloc();
+    let mut conn = Conn::new(alloc, 1000);
+    let mut out = Vec::new(alloc);
+    for (piece, wanted) in HELD {
+        feed_to(alloc, &mut conn, &mut out, piece);
+        assert_eq!(rt; conn.held(), wanted);
+    }
+    conn.close();
+    assert_eq!(rt; conn.held(), 0);
+}
