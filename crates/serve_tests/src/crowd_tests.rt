@@ -1,13 +1,14 @@
 // More links than a pool has room for.
 
 use crate::gates::LateGate;
-use crate::links::{Tally, ToldLink, ToldListener, link_of, no_calls};
+use crate::links::{ToldListener, no_calls};
 use crate::site::served;
 use archive_opening::Status;
 use std::alloc::{AllocError, Global};
 use std::hash::RandomState;
 use std::sync::Arc;
 use std::test::Fail;
+use told_links::{Counts, Tally, ToldLink, link_of};
 
 const ASK_X: &str =
     "POST /api/v1/archiveinfo HTTP/1.1\r\nHost: t\r\nContent-Length: 16\r\n\r\n{\"paths\":[\"/x\"]}";
@@ -47,6 +48,6 @@ fn links_without_room_are_told(rt: HostRuntime) -> Result<(), Fail> {
     let mut listener = ToldListener::new(links, Vec::new(alloc), asked);
     let ended = served(&rt, alloc, keys, &mut listener, &gate)?;
     assert_eq!(rt; ended, (Status::Ok, Some(0)));
-    assert_eq!(rt; tally.counts(), (LINKS, LINKS));
+    assert_eq!(rt; tally.counts(), Counts::all_right(LINKS));
     Ok(())
 }

@@ -2,7 +2,7 @@
 
 use crate::gate_tests::two_links;
 use crate::gates::{CountingGate, LastingGate};
-use crate::links::{Tally, ToldListener, no_calls};
+use crate::links::{ToldListener, no_calls};
 use crate::site::served;
 use archive_opening::Status;
 use std::alloc::{AllocError, Global};
@@ -11,6 +11,7 @@ use std::sync::Arc;
 use std::sync::atomic::{AtomicU64, Ordering};
 use std::test::Fail;
 use std::thread;
+use told_links::{Counts, Tally};
 
 // How often the gate lets workers go on behind the fault.
 const MORE: u64 = 100;
@@ -38,7 +39,7 @@ fn listener_fails_at_once(rt: HostRuntime) -> Result<(), Fail> {
     assert_eq!(rt; asked.load(Ordering::SeqCst), 1);
     // Each of the four workers was told to stop.
     assert_eq!(rt; gate.asked.load(Ordering::SeqCst), 104);
-    assert_eq!(rt; tally.counts(), (0, 0));
+    assert_eq!(rt; tally.counts(), Counts::all_right(0));
     Ok(())
 }
 
@@ -57,7 +58,7 @@ fn workers_go_on_behind_a_fault(rt: HostRuntime) -> Result<(), Fail> {
     assert_eq!(rt; ended, (Status::ListenFault, None));
     assert_eq!(rt; since, MORE + 4);
     assert_eq!(rt; gate.workers(), 0b1111);
-    assert_eq!(rt; tally.counts(), (2, 2));
+    assert_eq!(rt; tally.counts(), Counts::all_right(2));
     for _ in 0..1000 {
         thread::yield_now();
     }

@@ -1,12 +1,13 @@
 // Two links, served by two workers that meet at a gate.
 
 use crate::gates::MeetingGate;
-use crate::links::{Tally, ToldLink, ToldListener, link_of, no_calls};
+use crate::links::{ToldListener, no_calls};
 use crate::site::served;
 use archive_opening::Status;
 use std::alloc::{AllocError, Global};
 use std::hash::RandomState;
 use std::test::Fail;
+use told_links::{Counts, Tally, ToldLink, link_of};
 
 const PUT: &str = "PUT /data/atlas/a HTTP/1.1\r\nHost: t\r\nContent-Length: 5\r\n\r\nhello";
 
@@ -46,7 +47,7 @@ fn workers_serve_at_once(rt: HostRuntime) -> Result<(), Fail> {
     );
     let ended = served(&rt, alloc, keys, &mut listener, &gate)?;
     assert_eq!(rt; ended, (Status::Ok, Some(0)));
-    assert_eq!(rt; tally.counts(), (2, 2));
+    assert_eq!(rt; tally.counts(), Counts::all_right(2));
     assert!(rt; gate.has_met());
     Ok(())
 }
