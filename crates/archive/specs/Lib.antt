@@ -1,4 +1,5 @@
 pub use Rattle.archive_state.specs.States
+pub use Rattle.archive_state.specs.Shared
 pub use Rattle.archive_state.specs.Shelf
 pub mod InOrder
 pub mod OwnMounts

@@ -1,13 +1,15 @@
 // The archive.
-ghost use Rattle.std.specs.Prelude.{◌≡◌, ◌+◌, ◌<◌, ◌^◌, [], IfOk, Some, length, map};
+ghost use Rattle.std.specs.Prelude.{◌≡◌, ◌+◌, ◌<◌, ◌^◌, [], IfOk, None, Some, if◌then◌else◌, length, map};
 ghost use Rattle.cta_model.specs.Legal.{IsLegal};
+ghost use Rattle.cta_model.specs.Mounts.{is_open, mount_of};
 ghost use Rattle.cta_model.specs.Newest.{history_in};
+ghost use Rattle.archive_state.specs.Shared.{AreMedia, AreShared};
 ghost use Rattle.archive_state.specs.States.{AreFirstMedia, AreShelved};
 ghost use Rattle.cta_laws.specs.Holding.{HoldsLaws};
 
 use archive_state::ArchiveState;
 use cta_laws::legal_histories_hold;
-use cta_model::{Entry, NoMemory, Told};
+use cta_model::{Entry, Mount, NoMemory, Told};
 use cta_site::ValidSite;
 use std::alloc::Global;
 use std::hash::RandomState;
@@ -59,6 +61,31 @@ impl<M: Told + Drop> Archive<M> {
         ensures few { length result.now + 1 < 2 ^ 32 }
     {
         self.state.history.entries()
+    }
+
+    /// An open mount, None exactly where the mount is not open. Its cost is the number of open mounts.
+    pub fn mount(&self, number: u32) -> Option<Mount>
+        ensures { result ≡ (if is_open self.now.history number then mount_of self.now.history number else None) }
+    {
+        self.state.mount(number)
+    }
+
+    /// The same archive with these media, one for each tape of the site in order of their numbers, each true for the history where it
+    /// tells its records: those of mounted tapes come out, each with the number of its mount, in order of these, and all others lie on the
+    /// shelf. The media that the archive had are dropped, and after NoMemory the archive and these too. Its cost is that of going through
+    /// the history and the tapes.
+    pub fn with_media<N: Told + Drop>(
+        self,
+        media: Vec<N>,
+    ) -> Result<(Archive<N>, Vec<(u32, N)>), NoMemory>
+        requires { AreMedia N.told self.site self.history media.items }
+        ensures site { IfOk result (λ r. r.0.site ≡ self.site) }
+        ensures history { IfOk result (λ r. r.0.history ≡ self.history) }
+        ensures media { IfOk result (λ r. AreShared N.told self.history media.items r.0.shelf r.1.items) }
+    {
+        let Archive { alloc, state } = self;
+        let (state, mounts) = state.with_media(media)?;
+        Ok((Archive { alloc, state }, mounts))
     }
 
     /// Lets the archive go, with its media. Whoever owns an archive calls it in place of letting it go out of scope: that all of it is

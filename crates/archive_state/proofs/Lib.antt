@@ -13,3 +13,4 @@ mod NamedTwice
 mod KnownJobs
 mod FailedTold
 mod TapesTold
+mod Shares

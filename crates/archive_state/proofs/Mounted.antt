@@ -39,7 +39,7 @@ use Rattle.archive_parts.specs.PartsKept.{ArePartsKept}
 use Rattle.archive_state.specs.States.{IsState}
 
 -- one place is set, and every other stays
-medium_set : (media : List (Option MediumView)) (v : ℕ) (o : Option MediumView) → v < length media → (t : ℕ) → medium_at (slice_set media v o) t ≡ (if t == v then o else medium_at media t)
+pub medium_set : (media : List (Option MediumView)) (v : ℕ) (o : Option MediumView) → v < length media → (t : ℕ) → medium_at (slice_set media v o) t ≡ (if t == v then o else medium_at media t)
 medium_set media v o low t =
     elim (eqb_tells t v) [
       | inl same ↦ rw same.0 (get_or-set_at media v t o None same.1 low)
@@ -122,7 +122,7 @@ tape_made site h e (ask.Next d) (answer.Mounted m way v) x next ek ea is = subst
 tape_made site h e _ a x next ek ea is = absurd (cc)
 
 -- the tape of a mount is one of the site
-tape_of_site : (site : Site) (h : History) (m : ℕ) (x : Mount) → IsLegal site h → mount_of h m ≡ Some x → x.tape < length site.tapes.items
+pub tape_of_site : (site : Site) (h : History) (m : ℕ) (x : Mount) → IsLegal site h → mount_of h m ≡ Some x → x.tape < length site.tapes.items
 tape_of_site site [] m x legal is = absurd (cc)
 tape_of_site site (e ∷ h) m x legal is =
     elim (bool_cases (m == length h + 1)) [

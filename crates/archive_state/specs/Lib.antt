@@ -3,3 +3,4 @@ pub mod States
 pub mod Contents
 pub mod Keys
 pub mod Requests
+pub mod Shared

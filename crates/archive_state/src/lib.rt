@@ -5,6 +5,7 @@
 mod charges;
 mod claims;
 mod contents;
+mod exchange;
 mod failures;
 mod faults;
 mod files;
