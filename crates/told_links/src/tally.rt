@@ -16,8 +16,7 @@ pub struct Counts {
 impl Counts {
     /// So many links, all of which were sent exactly what they were to get.
     pub fn all_right(links: u64) -> Counts
-        ensures closed { result.closed ≡ links }
-        ensures right { result.right ≡ links }
+        ensures { result ≡ record { closed = links; right = links; without_memory = 0; cut = 0 } }
     {
         Counts {
             closed: links,
