@@ -1,6 +1,7 @@
 pub use Rattle.archive_state.specs.States
 pub use Rattle.archive_state.specs.Shared
 pub use Rattle.archive_state.specs.Shelf
+pub use Rattle.archive_state.specs.ClaimedJobs
 pub mod InOrder
 pub mod OwnMounts
 pub mod Refusals

@@ -1,19 +1,28 @@
 // The archive.
-ghost use Rattle.std.specs.Prelude.{◌≡◌, ◌+◌, ◌<◌, ◌^◌, [], IfOk, None, Some, if◌then◌else◌, length, map};
+ghost use Rattle.std.specs.Prelude.{◌≡◌, ◌+◌, ◌<◌, ◌^◌, [], IfOk, None, Some, if◌then◌else◌, length, map, option_map};
+ghost use Rattle.cta_site.specs.Listed.{Listed};
+ghost use Rattle.cta_model.specs.declared.asks.Direction.{Direction};
+ghost use Rattle.cta_model.specs.declared.asks.Job.{Job};
+ghost use Rattle.cta_model.specs.Buffer.{is_resident};
+ghost use Rattle.cta_model.specs.Files.{sum_of};
+ghost use Rattle.cta_model.specs.Hands.{sum_of_blob};
 ghost use Rattle.cta_model.specs.Legal.{IsLegal};
 ghost use Rattle.cta_model.specs.Mounts.{is_open, mount_of};
 ghost use Rattle.cta_model.specs.Newest.{history_in};
+ghost use Rattle.archive_state.specs.ClaimedJobs.{claimed_of};
 ghost use Rattle.archive_state.specs.Shared.{AreMedia, AreShared};
 ghost use Rattle.archive_state.specs.States.{AreFirstMedia, AreShelved};
 ghost use Rattle.cta_laws.specs.Holding.{HoldsLaws};
 
 use archive_state::ArchiveState;
+use blob::Blob;
 use cta_laws::legal_histories_hold;
-use cta_model::{Entry, Mount, NoMemory, Told};
-use cta_site::ValidSite;
+use cta_model::{Direction, Entry, Job, Mount, NoMemory, Told};
+use cta_site::{Rows, ValidSite};
 use std::alloc::Global;
 use std::hash::RandomState;
 use std::marker::Model;
+use std::sync::Arc;
 
 /// An archive of one site. Contracts see it as its site, its history, newest entry first, and its shelf: the media that no drive has, by
 /// the numbers of their tapes. The history is legal: each entry's answer is that of the sequential archive on the entries before it.
@@ -68,6 +77,22 @@ impl<M: Told + Drop> Archive<M> {
         ensures { result ≡ (if is_open self.now.history number then mount_of self.now.history number else None) }
     {
         self.state.mount(number)
+    }
+
+    /// The content of a file, which is named by the number of its Put, None exactly where the file is not in the buffer. In constant time.
+    pub fn content(&self, file: u32) -> Option<&Arc<Blob>>
+        ensures { option_map (λ b. sum_of_blob b.now) result ≡ (if is_resident self.now.history file then Some (sum_of self.now.history file) else None) }
+    {
+        self.state.content(file)
+    }
+
+    /// Which way an open mount goes, and the jobs that it claims, in order of birth, file and copy: those of its Claims that it has not
+    /// ended by a Flushed, a Recalled or a Failed, whether they are live or not. None exactly where the mount is not open, and NoMemory
+    /// gives nothing. It is for restarts, and its cost is that of `ArchiveState::claimed`.
+    pub fn claimed(&self, mount: u32) -> Result<Option<(Direction, Rows<Job>)>, NoMemory>
+        ensures { IfOk result (λ told. option_map (λ (x : Direction × Listed Job). (x.0, x.1.items)) told ≡ claimed_of self.now.site self.now.history mount) }
+    {
+        self.state.claimed(mount)
     }
 
     /// The same archive with these media, one for each tape of the site in order of their numbers, each true for the history where it

@@ -14,3 +14,4 @@ mod KnownJobs
 mod FailedTold
 mod TapesTold
 mod Shares
+mod ItemJobs

@@ -4,3 +4,4 @@ pub mod Contents
 pub mod Keys
 pub mod Requests
 pub mod Shared
+pub mod ClaimedJobs

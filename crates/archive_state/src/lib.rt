@@ -3,6 +3,7 @@
 #![tactic(auto)]
 
 mod charges;
+mod claimed_jobs;
 mod claims;
 mod contents;
 mod exchange;

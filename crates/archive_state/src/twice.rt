@@ -14,7 +14,7 @@ pub(crate) fn is_same_job(a: Job, b: Job) -> bool
 }
 
 // Whether a job is among these.
-fn is_among(job: Job, jobs: &[Job]) -> bool
+pub(crate) fn is_among(job: Job, jobs: &[Job]) -> bool
     ensures { result ≡ has_job job jobs.now }
 {
     jobs.iter().any(|other| is_same_job(job, *other))

@@ -21,7 +21,7 @@ const SITE: &str =
 
 // The medium of the site's one tape, which tells no records.
 #[derive(Drop)]
-struct Blank;
+pub(crate) struct Blank;
 
 impl Told for Blank {
     ghost use Rattle.std.specs.Prelude.{None};
@@ -29,8 +29,8 @@ impl Told for Blank {
     ghost told = { λ m. record { label = 0; records = None } };
 }
 
-fn site_of(alloc: Global) -> Option<ValidSite> {
-    read_site(alloc, SITE.as_bytes()).ok()?.check(alloc).ok()
+fn site_of(alloc: Global, site: &str) -> Option<ValidSite> {
+    read_site(alloc, site.as_bytes()).ok()?.check(alloc).ok()
 }
 
 // A medium for one tape.
@@ -42,12 +42,12 @@ fn media_of(alloc: Global) -> Option<Vec<Blank>>
     Some(media)
 }
 
-// An archive of a site with one tape and some drive.
+// An archive of this site, which has one tape and some drive.
 #[tactic(auto, using(crate::proofs::OneTape::one_medium))]
-fn archive_of(alloc: Global, keys: RandomState) -> Option<Archive<Blank>>
+pub(crate) fn archive_of(alloc: Global, keys: RandomState, site: &str) -> Option<Archive<Blank>>
     ensures { IfSome result (λ archive. 0 < length archive.site.drives.items) }
 {
-    let site = site_of(alloc)?;
+    let site = site_of(alloc, site)?;
     if site.drives().len() < 1 {
         drop(site);
         return None;
@@ -87,7 +87,7 @@ fn put_of(alloc: Global, path: &str) -> Option<Put> {
     Some(Put { who, path, blob })
 }
 
-fn two_puts(alloc: Global) -> Option<(Put, Put)> {
+pub(crate) fn two_puts(alloc: Global) -> Option<(Put, Put)> {
     let a = put_of(alloc, "/atlas/a")?;
     let b = put_of(alloc, "/atlas/b")?;
     Some((a, b))
@@ -252,7 +252,7 @@ fn told_in_turn<R: Threads + Wait + Sync>(
 ) -> Option<(u64, bool, bool)> {
     let puts = two_puts(alloc)?;
     let c = put_of(alloc, "/atlas/c")?;
-    let archive = archive_of(alloc, keys)?;
+    let archive = archive_of(alloc, keys, SITE)?;
     match two_passes(alloc, archive) {
         Ok((hall, first, second)) => {
             let (passed, all) = in_turn(rt, &hall, (first, second), puts);
@@ -277,7 +277,7 @@ fn told_at_once<R: Threads + Wait + Sync>(
 ) -> Option<(bool, bool)> {
     let (a, b) = two_puts(alloc)?;
     let look = look_of(alloc)?;
-    let archive = archive_of(alloc, keys)?;
+    let archive = archive_of(alloc, keys, SITE)?;
     match two_passes(alloc, archive) {
         Ok((hall, first, second)) => {
             let mut all = both(rt, &hall, first, second, a, b);
