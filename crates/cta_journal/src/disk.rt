@@ -1,5 +1,5 @@
 // A disk as the journal sees it: what a read gives, and what a crash may leave.
-ghost use Rattle.std.specs.Prelude.{◌≡◌, ◌≤◌, List, ℕ, length, take, Some, OnOk, IfOk};
+ghost use Rattle.std.specs.Prelude.{◌≡◌, ◌≤◌, List, ℕ, length, take, None, Some, OnOk, IfOk};
 ghost use Rattle.std.specs.declared.option.Option.{Option};
 ghost use Rattle.std.specs.Io.{ReadsAtMost};
 ghost use Rattle.outside.specs.Causes.{HasCause};
@@ -8,7 +8,7 @@ ghost use Rattle.cta_journal.specs.Disk.{written, Only, IsPossible, Follows, Tor
 use outside::Failed;
 
 /// One file that stays over a crash. What each call does is said where the disk tells its content: a disk over the machine's
-/// files tells nothing.
+/// files tells nothing, and one that tells nothing never does.
 pub trait Disk {
     /// What a read gives, where it tells.
     ghost content: { Self → Option (List ℕ) };
@@ -39,6 +39,7 @@ pub trait Disk {
     fn write_at(&mut self, at: u64, piece: &[u8]) -> Result<(), Failed>
         ensures bytes { (file : List ℕ) → content self.old ≡ Some file → at ≤ length file → OnOk result (content self.new ≡ Some (written file at piece.now)) }
         ensures crash { (file : List ℕ) → content self.old ≡ Some file → at ≤ length file → Follows (Torn at (length piece.now)) (may_leave self.old) (may_leave self.new) }
+        ensures untold { content self.old ≡ None → content self.new ≡ None }
         ensures possible { IsPossible (content self.old) (may_leave self.old) → IsPossible (content self.new) (may_leave self.new) }
         ensures time { Elapses (moment self.old) (moment self.new) (left_since self.old) (left_since self.new) (may_leave self.new) }
         ensures cause { HasCause (fault_count self.old) (fault_count self.new) result };
@@ -47,6 +48,7 @@ pub trait Disk {
     fn cut(&mut self, len: u64) -> Result<(), Failed>
         ensures bytes { (file : List ℕ) → content self.old ≡ Some file → len ≤ length file → OnOk result (content self.new ≡ Some (take len file)) }
         ensures crash { (file : List ℕ) → content self.old ≡ Some file → len ≤ length file → Follows (Cut len) (may_leave self.old) (may_leave self.new) }
+        ensures untold { content self.old ≡ None → content self.new ≡ None }
         ensures possible { IsPossible (content self.old) (may_leave self.old) → IsPossible (content self.new) (may_leave self.new) }
         ensures time { Elapses (moment self.old) (moment self.new) (left_since self.old) (left_since self.new) (may_leave self.new) }
         ensures cause { HasCause (fault_count self.old) (fault_count self.new) result };

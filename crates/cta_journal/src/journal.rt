@@ -46,6 +46,7 @@ impl<K: Disk> Journal<K> {
         ensures content { (bodies : List (List ℕ)) → StandsFor K.content K.may_leave self.old bodies
             → OnOk result (K.content (disk_of self.new) ≡ Some (log_file (bodies ++ R.body kept.now ∷ []))) }
         ensures fits { OnOk result (R.fits kept.now) }
+        ensures known { IsErrOf result AppendError.Fault → R.fits kept.now }
 
         // A crash at any moment of the call leaves the log from before it, with the new record or without.
         ensures any_moment { (bodies : List (List ℕ)) → StandsFor K.content K.may_leave self.old bodies
@@ -74,6 +75,7 @@ impl<K: Disk> Journal<K> {
         ensures content { (bodies : List (List ℕ)) → 0 < length kept.now → StandsFor K.content K.may_leave self.old bodies
             → OnOk result (K.content (disk_of self.new) ≡ Some (log_file (bodies ++ map R.body kept.now))) }
         ensures fits { OnOk result (All R.fits kept.now) }
+        ensures known { IsErrOf result AppendError.Fault → All R.fits kept.now }
         ensures any_moment { (bodies : List (List ℕ)) → StandsFor K.content K.may_leave self.old bodies
             → LeavesOnly K.moment K.left_since (disk_of self.old) (disk_of self.new) (HasLogOrMore bodies (map R.body kept.now)) }
         ensures possible { IsPossible (K.content (disk_of self.old)) (K.may_leave (disk_of self.old))

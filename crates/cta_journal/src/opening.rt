@@ -1,5 +1,5 @@
 // The opening of a disk that a crash may have left.
-ghost use Rattle.std.specs.Prelude.{◌≡◌, ◌⊎◌, ◌≤◌, ◌<◌, ◌^◌, List, ℕ, true, Some, length, map, IfOk, IfErr, IsErr, IsErrOf};
+ghost use Rattle.std.specs.Prelude.{◌≡◌, ◌⊎◌, ◌≤◌, ◌<◌, ◌^◌, List, ℕ, All, true, None, Some, length, map, IfOk, IfErr, IsErr, IsErrOf};
 ghost use Rattle.outside.specs.Causes.{Rose};
 ghost use Rattle.cta_journal.specs.Disk.{IsPossible, LeavesOnly, Only};
 ghost use Rattle.cta_journal.specs.Log.{HasLog, KeepsLog};
@@ -52,6 +52,8 @@ fn settle<K: Disk, R: Record>(
         → IfOk result (λ r. K.content disk.new ≡ Some (opened bytes.now (map R.body r.0.items))) }
     ensures any_moment { K.content disk.old ≡ Some bytes.now → Only bytes.now (K.may_leave disk.old)
         → LeavesOnly K.moment K.left_since disk.old disk.new (KeepsLog bytes.now) }
+    ensures untold { K.content disk.old ≡ None → K.content disk.new ≡ None }
+    ensures fits { IfOk result (λ r. All R.fits r.0.items) }
     ensures possible { IsPossible (K.content disk.old) (K.may_leave disk.old) → IsPossible (K.content disk.new) (K.may_leave disk.new) }
     ensures later { K.fault_count disk.old ≤ K.fault_count disk.new }
     ensures fault { IsErrOf result OpenError.Fault → Rose (K.fault_count disk.old) (K.fault_count disk.new) }
@@ -102,6 +104,8 @@ fn prepare<K: Disk, R: Record>(alloc: Global, disk: &mut K) -> Result<(Vec<R>, u
         → IfOk result (λ r. K.content disk.new ≡ Some (opened file (map R.body r.0.items))) }
     ensures any_moment { (file : List ℕ) → K.content disk.old ≡ Some file
         → LeavesOnly K.moment K.left_since disk.old disk.new (λ c. K.may_leave disk.old c ⊎ KeepsLog file c) }
+    ensures untold { K.content disk.old ≡ None → K.content disk.new ≡ None }
+    ensures fits { IfOk result (λ r. All R.fits r.0.items) }
     ensures possible { IsPossible (K.content disk.old) (K.may_leave disk.old) → IsPossible (K.content disk.new) (K.may_leave disk.new) }
     ensures later { K.fault_count disk.old ≤ K.fault_count disk.new }
     ensures fault { IsErrOf result OpenError.Fault → Rose (K.fault_count disk.old) (K.fault_count disk.new) }
@@ -125,6 +129,8 @@ impl<K: Disk> Journal<K> {
             → IfOk result (λ r. HasLog file (map R.body r.1.items) × StandsFor K.content K.may_leave r.0 (map R.body r.1.items)) }
         ensures content { (file : List ℕ) → K.content disk ≡ Some file
             → IfOk result (λ r. K.content (disk_of r.0) ≡ Some (opened file (map R.body r.1.items))) }
+        ensures untold { K.content disk ≡ None → IfOk result (λ r. K.content (disk_of r.0) ≡ None) }
+        ensures fits { IfOk result (λ r. All R.fits r.1.items) }
         ensures open { IfOk result (λ r. is_open_of r.0 ≡ true) }
 
         // A crash at any moment of the call leaves what a crash before it could leave, or a content with the same log.

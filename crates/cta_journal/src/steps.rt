@@ -1,5 +1,5 @@
 // Changes of a disk that are synced before anything else is done.
-ghost use Rattle.std.specs.Prelude.{◌≡◌, ◌++◌, ◌∷◌, ◌<◌, ◌≤◌, ◌+◌, ◌^◌, List, ℕ, Some, length, take, IfOk, OnOk};
+ghost use Rattle.std.specs.Prelude.{◌≡◌, ◌++◌, ◌∷◌, ◌<◌, ◌≤◌, ◌+◌, ◌^◌, List, ℕ, None, Some, length, take, IfOk, OnOk};
 ghost use Rattle.outside.specs.Causes.{HasCause};
 ghost use Rattle.cta_journal.specs.Disk.{written, Only, IsPossible, LeavesOnly, Torn, Cut};
 ghost use Rattle.cta_journal.specs.Log.{HasLogOrMore};
@@ -14,6 +14,7 @@ pub(crate) fn store<K: Disk>(disk: &mut K, at: u64, piece: &[u8]) -> Result<(), 
         → OnOk result ((K.content disk.new ≡ Some (written file at piece.now)) × Only (written file at piece.now) (K.may_leave disk.new)) }
     ensures any_moment { (file : List ℕ) → K.content disk.old ≡ Some file → at ≤ length file → Only file (K.may_leave disk.old)
         → LeavesOnly K.moment K.left_since disk.old disk.new (Torn at (length piece.now) file) }
+    ensures untold { K.content disk.old ≡ None → K.content disk.new ≡ None }
     ensures possible { IsPossible (K.content disk.old) (K.may_leave disk.old) → IsPossible (K.content disk.new) (K.may_leave disk.new) }
     ensures cause { HasCause (K.fault_count disk.old) (K.fault_count disk.new) result }
 {
@@ -28,6 +29,7 @@ pub(crate) fn shorten<K: Disk>(disk: &mut K, len: u64) -> Result<(), Failed>
         → OnOk result ((K.content disk.new ≡ Some (take len file)) × Only (take len file) (K.may_leave disk.new)) }
     ensures any_moment { (file : List ℕ) → K.content disk.old ≡ Some file → len ≤ length file → Only file (K.may_leave disk.old)
         → LeavesOnly K.moment K.left_since disk.old disk.new (Cut len file) }
+    ensures untold { K.content disk.old ≡ None → K.content disk.new ≡ None }
     ensures possible { IsPossible (K.content disk.old) (K.may_leave disk.old) → IsPossible (K.content disk.new) (K.may_leave disk.new) }
     ensures cause { HasCause (K.fault_count disk.old) (K.fault_count disk.new) result }
 {

@@ -1,8 +1,12 @@
 -- What is kept is told by its record, but for the room in its lists.
-use Rattle.std.proofs.Common.{◌≡◌, ◌∙◌, ◌++◌, ◌==◌, if◌then◌else◌, Bool, true, false, List, [], ◌∷◌, ℕ, length, Option, map, refl, ap, sym}
+use Rattle.std.proofs.Common.{◌≡◌, ◌∙◌, ◌++◌, ◌==◌, if◌then◌else◌, Bool, true, false, List, [], ◌∷◌, ℕ, length, Option, map, refl, ap, sym, Bor}
+use Rattle.std.specs.Prelude.{Err}
 use Rattle.std.proofs.lemmas.Bool.{false≢true}
 use Rattle.std.specs.Arc.{arc_value}
+use Rattle.record_fields.specs.Fields.{TookUpTo}
 use Rattle.record_fields.specs.Lists.{option_before}
+use Rattle.record_fields.specs.declared.field.TakeError.{TakeError}
+use Rattle.record_fields.specs.declared.field.TakeError.TheVariants as error
 use Rattle.record_fields.proofs.ToldNumbers.{told_byte, told_number, number_told, told_long, long_told, told_front, front_told}
 use Rattle.record_fields.proofs.ToldLists.{told_option, plain_option_told}
 use Rattle.record_fields.proofs.ToldValues.{told_who, who_told}
@@ -48,6 +52,15 @@ entry_told : (v : Entry) (rest : List ℕ) → EntryFits v → told_entry (entry
 unfolding told_entry
 entry_told v rest fit =
     rw (long_told v.at (actor_before v.actor (ask_before v.ask (answer_before v.answer rest))) fit.0, actor_told v.actor (ask_before v.ask (answer_before v.answer rest)) fit.1, ask_told v.ask (answer_before v.answer rest) fit.2, answer_told v.answer rest fit.3) refl
+
+-- bytes begin with one entry at most, but for the room in its lists
+pub one_entry : (v w : Entry) (rest more bytes : List ℕ) → EntryFits v → EntryFits w → bytes ≡ entry_before v rest → bytes ≡ entry_before w more → bare_entry v ≡ bare_entry w
+one_entry v w rest more bytes fit fits is same = ap (λ p. p.0) (sym (entry_told v rest fit) ∙ ap told_entry (sym is ∙ same) ∙ entry_told w more fits)
+
+-- an entry whose bytes are there is taken, or memory runs out
+pub never_bad : (e : TakeError) → e ≡ error.Bad → TookUpTo {V = Entry} {R = Bor (List ℕ)} (λ rest. rest.now) [] (Err e) → ⊥
+never_bad error.NoMemory is took = absurd (cc)
+never_bad error.Bad is took = took
 
 pub told_content : List ℕ → List ℕ × List ℕ
 told_content bytes = told_front (told_long bytes)

@@ -5,6 +5,7 @@ mod answers;
 mod asks;
 mod bodies;
 mod contents;
+mod copying;
 mod entries;
 mod journaled;
 mod kept;
@@ -12,6 +13,7 @@ mod laws;
 mod reading;
 mod writing;
 
+pub use copying::copy_entry;
 pub use kept::{Kept, RecordRead};
 pub use laws::records_tell_apart;
 pub use reading::read_record;

@@ -1,5 +1,5 @@
 // A disk in memory that tears what wasn't synced, and fails at the calls that it is told.
-ghost use Rattle.std.specs.Prelude.{◌≡◌, ◌≤◌, Some, IfOk, OnOk, IsErr, length, take, List, ℕ, Contains};
+ghost use Rattle.std.specs.Prelude.{◌≡◌, ◌≤◌, None, Some, IfOk, OnOk, IsErr, length, take, List, ℕ, Contains};
 ghost use Rattle.std.specs.Io.{ReadsAtMost};
 ghost use Rattle.outside.specs.Causes.{HasCause, next_call};
 ghost use Rattle.cta_journal.specs.Disk.{written, Only, IsPossible, Follows, Torn, Cut, ReadsAt, Elapses};
@@ -122,6 +122,7 @@ impl Disk for MemDisk {
     fn write_at(&mut self, at: u64, piece: &[u8]) -> Result<(), Failed>
         ensures bytes { (file : List ℕ) → Some (disk_bytes self.old) ≡ Some file → at ≤ length file → OnOk result (Some (disk_bytes self.new) ≡ Some (written file at piece.now)) }
         ensures crash { (file : List ℕ) → Some (disk_bytes self.old) ≡ Some file → at ≤ length file → Follows (Torn at (length piece.now)) (MayLeave self.old) (MayLeave self.new) }
+        ensures untold { Some (disk_bytes self.old) ≡ None → Some (disk_bytes self.new) ≡ None }
         ensures possible { IsPossible (Some (disk_bytes self.old)) (MayLeave self.old) → IsPossible (Some (disk_bytes self.new)) (MayLeave self.new) }
         ensures time { Elapses (moment_of self.old.kept) (moment_of self.new.kept) (LeftSince self.old.kept) (LeftSince self.new.kept) (MayLeave self.new) }
         ensures cause { HasCause (disk_faults self.old) (disk_faults self.new) result }
@@ -154,6 +155,7 @@ impl Disk for MemDisk {
     fn cut(&mut self, len: u64) -> Result<(), Failed>
         ensures bytes { (file : List ℕ) → Some (disk_bytes self.old) ≡ Some file → len ≤ length file → OnOk result (Some (disk_bytes self.new) ≡ Some (take len file)) }
         ensures crash { (file : List ℕ) → Some (disk_bytes self.old) ≡ Some file → len ≤ length file → Follows (Cut len) (MayLeave self.old) (MayLeave self.new) }
+        ensures untold { Some (disk_bytes self.old) ≡ None → Some (disk_bytes self.new) ≡ None }
         ensures possible { IsPossible (Some (disk_bytes self.old)) (MayLeave self.old) → IsPossible (Some (disk_bytes self.new)) (MayLeave self.new) }
         ensures time { Elapses (moment_of self.old.kept) (moment_of self.new.kept) (LeftSince self.old.kept) (LeftSince self.new.kept) (MayLeave self.new) }
         ensures cause { HasCause (disk_faults self.old) (disk_faults self.new) result }
