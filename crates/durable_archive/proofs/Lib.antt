@@ -1,0 +1,9 @@
+mod Turning
+mod Growing
+mod Leaving
+mod LastContent
+mod Running
+mod Alike
+mod Reopening
+mod Appended
+mod Calling
