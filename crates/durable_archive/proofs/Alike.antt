@@ -7,7 +7,6 @@ use Rattle.std.proofs.lemmas.List.{map-append, reverse-append}
 use Rattle.std.specs.declared.alloc.Global.{Global}
 use Rattle.std.specs.declared.sync.Arc.{Arc}
 use Rattle.blob.specs.declared.blobs.Blob.{Blob}
-use Rattle.blob.specs.declared.sum.Sum256.{Sum256}
 use Rattle.blob.specs.Sums.{sum_of}
 use Rattle.cta_site.specs.declared.site.Site.{Site}
 use Rattle.cta_model.specs.declared.entries.Entry.{Entry}
@@ -18,7 +17,7 @@ use Rattle.cta_model.specs.Legal.{IsNext}
 use Rattle.record_fields.specs.Numbers.{long_number}
 use Rattle.cta_records.specs.declared.kept.Kept.{Kept}
 use Rattle.cta_records.specs.Laws.{IsOneRecord, plain_kept}
-use Rattle.cta_records.specs.Records.{KeptFits, body_of, record_of}
+use Rattle.cta_records.specs.Records.{KeptFits, body_of}
 use Rattle.archive_restore.specs.Contents.{content_sum}
 use Rattle.archive_restore.specs.Logs.{AreRight, IsRightLog, MayFollow, entries_of, history_of_log}
 use Rattle.durable_archive.proofs.Growing.{content_bare}

@@ -1,16 +1,16 @@
 -- A record goes into the journal.
-use Rattle.std.proofs.Common.{◌≡◌, ◌⊎◌, ℕ, inl, inr, List, [], ◌∷◌, ◌++◌, sym, subst}
-use Rattle.std.specs.Prelude.{Option, Some, None, Result, Ok, Err, OnOk, IfOk}
+use Rattle.std.proofs.Common.{◌≡◌, ℕ, inl, inr, List, [], ◌∷◌, ◌++◌, sym, subst}
+use Rattle.std.specs.Prelude.{Option, Some, Result, Ok, Err, OnOk}
 use Rattle.cta_site.specs.declared.site.Site.{Site}
 use Rattle.cta_model.specs.declared.entries.Entry.{Entry}
 use Rattle.cta_model.specs.History.{History}
 use Rattle.cta_model.specs.Legal.{IsLegal}
-use Rattle.cta_journal.specs.Log.{HasLog, HasLogOrMore}
+use Rattle.cta_journal.specs.Log.{HasLogOrMore}
 use Rattle.cta_journal.specs.Standing.{StandsFor}
 use Rattle.cta_journal.specs.declared.journal.Journal.{Journal}
 use Rattle.cta_records.specs.declared.kept.Kept.{Kept}
 use Rattle.cta_records.specs.Records.{KeptFits, body_of}
-use Rattle.durable_archive.specs.Records.{AreRecordsOf, IsLastKept, IsRecordOf, MayHaveMore, MayHaveNext, StandsForNext}
+use Rattle.durable_archive.specs.Records.{AreRecordsOf, IsLastKept, MayHaveMore, MayHaveNext, StandsForNext}
 use Rattle.durable_archive.proofs.Growing.{next_records}
 
 pub more_fits : (bodies : List (List ℕ)) (kept : Kept) → KeptFits kept → (file : List ℕ) → HasLogOrMore bodies (body_of kept ∷ []) file → MayHaveMore bodies kept file

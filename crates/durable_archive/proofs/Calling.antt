@@ -1,12 +1,9 @@
 -- One call of an archive that keeps a journal.
-use Rattle.std.proofs.Common.{◌≡◌, ◌∙◌, ℕ, ◌≤◌, inl, inr, List, [], ◌∷◌, ◌++◌, Bool, true, false, not, refl, sym, ap, subst}
-use Rattle.std.specs.Prelude.{Option, Some, None, Result, Ok, Err, OnOk, IsErrOf, if◌then◌else◌}
+use Rattle.std.proofs.Common.{◌≡◌, ℕ, ◌≤◌, List, ◌∷◌, ◌++◌, Bool, true, false, not, refl, sym, ap, subst}
+use Rattle.std.specs.Prelude.{Option, Some, None, Ok, Err, if◌then◌else◌}
 use Rattle.blob.specs.Records.{MediumView}
 use Rattle.cta_site.specs.declared.site.Site.{Site}
-use Rattle.cta_model.specs.declared.answers.Answer.{Answer}
-use Rattle.cta_model.specs.declared.asks.Ask.{Ask}
 use Rattle.cta_model.specs.declared.entries.Entry.{Entry}
-use Rattle.cta_model.specs.declared.hands.Hand.{Hand}
 use Rattle.cta_model.specs.Answers.{is_accepted}
 use Rattle.cta_model.specs.Bare.{bare_answer, bare_ask}
 use Rattle.cta_model.specs.Hands.{medium_in}

@@ -1,6 +1,6 @@
 -- The content of the last entry's file is in the buffer.
-use Rattle.std.proofs.Common.{◌≡◌, ◌∙◌, ◌⊎◌, inl, inr, ℕ, ◌+◌, ◌-◌, ◌<◌, ◌≤◌, List, [], ◌∷◌, Bool, true, false, refl, sym, ap, subst, arith, length, take, get_or}
-use Rattle.std.specs.Prelude.{Option, Some, None, if◌then◌else◌, ◌==◌, bytes_eq, is_some, option_map, map, reverse, slice_get}
+use Rattle.std.proofs.Common.{◌≡◌, ◌∙◌, ◌⊎◌, inl, inr, ℕ, ◌+◌, ◌-◌, ◌<◌, ◌≤◌, List, [], ◌∷◌, true, refl, sym, ap, arith, length, take, get_or}
+use Rattle.std.specs.Prelude.{Option, Some, None, option_map, map, slice_get}
 use Rattle.std.specs.declared.alloc.Global.{Global}
 use Rattle.std.specs.declared.sync.Arc.{Arc}
 use Rattle.std.proofs.lemmas.List.{length-map, length-reverse, take_all}
@@ -17,12 +17,12 @@ use Rattle.cta_model.specs.declared.asks.Fate.TheVariants as fate
 use Rattle.cta_model.specs.declared.asks.Job.{Job}
 use Rattle.cta_model.specs.declared.asks.Who.{Who}
 use Rattle.cta_model.specs.declared.entries.Entry.{Entry}
-use Rattle.cta_model.specs.Answers.{answer_of, is_known}
+use Rattle.cta_model.specs.Answers.{answer_of}
 use Rattle.cta_model.specs.Bare.{bare_answer, bare_ask, bare_entry}
 use Rattle.cta_model.specs.Buffer.{brings_in, evicts, is_resident, last_arrival}
-use Rattle.cta_model.specs.Files.{entry_sum, is_live, live_after, live_file, sum_in, sum_of}
+use Rattle.cta_model.specs.Files.{is_live, live_after, live_file, sum_in, sum_of}
 use Rattle.cta_model.specs.Hands.{sum_of_blob}
-use Rattle.cta_model.specs.History.{History, entry_of}
+use Rattle.cta_model.specs.History.{History}
 use Rattle.cta_model.specs.Newest.{history_in}
 use Rattle.cta_model.proofs.Newest.{history_in-read}
 use Rattle.cta_model.specs.Jobs.{is_live_job}

@@ -1,14 +1,12 @@
 -- What a crash leaves of a journal.
-use Rattle.std.proofs.Common.{◌≡◌, ℕ, inl, inr, List, [], ◌∷◌, ◌++◌, refl, sym, ap, ◌∙◌, subst, append_assoc}
-use Rattle.std.specs.Prelude.{Option, Some, None}
+use Rattle.std.proofs.Common.{◌≡◌, ℕ, inl, inr, List, [], ◌∷◌, ◌++◌, refl, subst, append_assoc}
+use Rattle.std.specs.Prelude.{Option}
 use Rattle.cta_site.specs.declared.site.Site.{Site}
 use Rattle.cta_model.specs.declared.entries.Entry.{Entry}
 use Rattle.cta_model.specs.History.{History}
 use Rattle.cta_journal.specs.declared.journal.Journal.{Journal}
-use Rattle.cta_journal.specs.Disk.{LeavesOnly}
 use Rattle.cta_journal.specs.Log.{HasLog}
-use Rattle.cta_journal.specs.Standing.{Stands, StandsFor, disk_of}
-use Rattle.cta_journal.proofs.Moments.{started, weaker}
+use Rattle.cta_journal.specs.Standing.{StandsFor, disk_of}
 use Rattle.cta_journal.proofs.Records.{ends}
 use Rattle.durable_archive.specs.Journaled.{StandsForHistory}
 use Rattle.durable_archive.specs.Records.{AreRecordsOf, IsOlder, KeepsBetween, KeepsHistory, MayHaveNext, StandsForNext}

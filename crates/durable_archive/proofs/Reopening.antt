@@ -1,16 +1,16 @@
 -- The history that a journal tells comes back.
-use Rattle.std.proofs.Common.{◌≡◌, ◌∙◌, ℕ, ◌+◌, ◌*◌, ◌^◌, ◌<◌, ◌≤◌, inl, inr, List, [], ◌∷◌, ◌++◌, refl, sym, ap, subst, arith, length, take, length-append}
-use Rattle.std.specs.Prelude.{All, Option, Some, None, map}
+use Rattle.std.proofs.Common.{◌≡◌, ◌∙◌, ℕ, ◌^◌, ◌<◌, ◌≤◌, inl, inr, List, [], ◌∷◌, ◌++◌, refl, sym, ap, subst, arith, length, take}
+use Rattle.std.specs.Prelude.{Option, Some, None, map}
 use Rattle.std.specs.List.{AllByRecursion}
-use Rattle.std.proofs.lemmas.List.{append-nil, length-map, length-reverse, take_at}
-use Rattle.std.proofs.lemmas.List.Elements.{All-from_recursion, recursion_from_All}
+use Rattle.std.proofs.lemmas.List.{length-map, length-reverse, take_at}
+use Rattle.std.proofs.lemmas.List.Elements.{All-from_recursion}
 use Rattle.cta_site.specs.declared.site.Site.{Site}
 use Rattle.cta_model.specs.History.{History}
 use Rattle.cta_model.specs.Legal.{IsLegal}
 use Rattle.cta_laws.proofs.LengthLaw.{stays_short}
 use Rattle.cta_journal.specs.Damage.{IsDamaged, most_records}
 use Rattle.cta_journal.specs.Log.{HasLog, counted, records}
-use Rattle.cta_journal.specs.Standing.{Stands, StandsFor, disk_of}
+use Rattle.cta_journal.specs.Standing.{StandsFor, disk_of}
 use Rattle.cta_journal.specs.declared.journal.Journal.{Journal}
 use Rattle.cta_journal.proofs.Damages.{not_shut}
 use Rattle.cta_journal.proofs.Records.{counted_same, length-counted, same_log, tail_same}
@@ -24,7 +24,7 @@ use Rattle.archive_restore.specs.declared.error.RestoreError.TheVariants as rest
 use Rattle.archive_restore.specs.Logs.{AreRight, IsFirstWrong, IsRightLog, IsWrongOnce, entries_of, history_of_log}
 use Rattle.durable_archive.specs.Opened.{IsExcused, IsRefusedFor, of_open, of_restore}
 use Rattle.durable_archive.specs.Journaled.{LogIsHistory}
-use Rattle.durable_archive.specs.Records.{AreRecordsOf, KeepsHistory, TellsHistory}
+use Rattle.durable_archive.specs.Records.{KeepsHistory, TellsHistory}
 use Rattle.durable_archive.proofs.Alike.{Alike, alike, history_too, right_too}
 
 -- ---- a journal stands for one log

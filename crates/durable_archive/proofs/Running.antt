@@ -1,5 +1,5 @@
 -- How a run of calls goes on.
-use Rattle.std.proofs.Common.{◌≡◌, ◌∙◌, ℕ, zero, suc, ◌+◌, ◌<◌, ◌≤◌, List, [], ◌∷◌, ◌++◌, Bool, true, false, refl, sym, ap, subst, arith, length, append_assoc}
+use Rattle.std.proofs.Common.{◌≡◌, ◌∙◌, ℕ, zero, suc, ◌+◌, ◌<◌, List, [], ◌∷◌, ◌++◌, Bool, true, false, refl, sym, ap, subst, arith, length, append_assoc}
 use Rattle.std.specs.Prelude.{Option, Some, None, Ok, Err, if◌then◌else◌, drop, get_or, reverse, take}
 use Rattle.std.proofs.lemmas.List.{drop_more, length-append, reverse-append}
 use Rattle.blob.specs.Records.{MediumView}
@@ -11,7 +11,6 @@ use Rattle.cta_model.specs.Answers.{is_accepted}
 use Rattle.cta_model.specs.Bare.{bare_answer}
 use Rattle.cta_model.specs.History.{History}
 use Rattle.cta_model.specs.Kept.{Kept}
-use Rattle.cta_journal.specs.Disk.{LeavesOnly}
 use Rattle.cta_journal.specs.Standing.{disk_of}
 use Rattle.cta_journal.proofs.Moments.{and_then, started, weaker}
 use Rattle.archive_turns.specs.declared.calls.ArchiveCall.{ArchiveCall}

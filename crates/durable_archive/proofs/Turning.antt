@@ -1,6 +1,6 @@
 -- The laws of turns, of an archive that keeps a journal.
-use Rattle.std.proofs.Common.{◌≡◌, ℕ, ◌+◌, ◌⊎◌, inl, inr, List, [], ◌∷◌, ◌++◌, Bool, true, false, refl, sym, ap, ◌∙◌, subst, arith, length}
-use Rattle.std.specs.Prelude.{Option, Some, reverse, Ok}
+use Rattle.std.proofs.Common.{◌≡◌, ℕ, ◌+◌, ◌⊎◌, List, [], ◌∷◌, Bool, true, false, sym, ap, ◌∙◌, subst, arith, length}
+use Rattle.std.specs.Prelude.{Some, reverse, Ok}
 use Rattle.std.proofs.lemmas.List.{append-nil}
 use mathlib.Core.List.{IsPrefix}
 use mathlib.Core.Option.{some, some-ne-none}
@@ -19,11 +19,10 @@ use Rattle.archive_turns.specs.declared.calls.ArchiveCall.TheVariants as call
 use Rattle.archive_turns.specs.declared.calls.ArchiveBack.{ArchiveBack}
 use Rattle.archive_turns.specs.declared.calls.ArchiveBack.TheVariants as archives
 use Rattle.archive_turns.specs.Fits.{CanPlay}
-use Rattle.archive_turns.specs.Plays.{Plays, Returns, call_adds, call_asks}
+use Rattle.archive_turns.specs.Plays.{Returns, call_adds, call_asks}
 use Rattle.archive_turns.specs.Topics.{topic_of}
 use Rattle.archive.specs.InOrder.{Grows, IsLegalInOrder, PlaysInOrder, Sounds, Topics}
 use Rattle.archive.proofs.Orders.{reverse_one}
-use Rattle.durable_archive.specs.declared.back.CloseCause.{CloseCause}
 use Rattle.durable_archive.specs.declared.back.LoggedBack.{LoggedBack}
 use Rattle.durable_archive.specs.declared.back.LoggedBack.TheVariants as back
 use Rattle.durable_archive.specs.Turns.{ClosedKeeps, ClosedReturns, LoggedKeeps, LoggedPlays, LoggedReturns, logged_adds}

@@ -1,5 +1,5 @@
 -- What comes of the opening of a journal.
-use Rattle.std.specs.Prelude.{◌≡◌, ℕ, ⊤, List, map}
+use Rattle.std.specs.Prelude.{ℕ, ⊤, List, map}
 use Rattle.cta_site.specs.declared.site.Site.{Site}
 use Rattle.cta_journal.specs.Damage.{IsDamaged}
 use Rattle.cta_journal.specs.Log.{HasLog}

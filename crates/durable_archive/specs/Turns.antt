@@ -1,5 +1,5 @@
 -- What comes back from a call of an archive that keeps a journal, and what is kept then.
-use Rattle.std.specs.Prelude.{ℕ, ◌≡◌, ◌⊎◌, ⊤, List, Bool, true, false, reverse, Option, Some, None, Ok}
+use Rattle.std.specs.Prelude.{ℕ, ◌≡◌, ⊤, List, Bool, true, false, reverse, Option, Some, None, Ok}
 use Rattle.blob.specs.Records.{MediumView}
 use Rattle.outside.specs.Causes.{Rose}
 use Rattle.cta_site.specs.declared.site.Site.{Site}

@@ -1,7 +1,6 @@
 use Rattle.std.proofs.Common.{subst}
-use Rattle.cta_journal.specs.Standing.{StandsFor, disk_of}
+use Rattle.cta_journal.specs.Standing.{disk_of}
 use Rattle.cta_journal.proofs.Moments.{weaker}
-use Rattle.cta_records.specs.Records.{KeptFits, body_of}
 use Rattle.durable_archive.specs.Records.{IsLastKept, MayHaveMore, MayHaveNext}
 use Rattle.durable_archive.proofs.Appended.{may_have_next, next_stands_for, on_both}
 use Rattle.durable_archive.proofs.keeping.keep_last.Goals as goal

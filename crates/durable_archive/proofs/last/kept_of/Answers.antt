@@ -1,4 +1,4 @@
-use Rattle.std.proofs.Common.{◌≡◌, ◌∷◌, subst, sym}
+use Rattle.std.proofs.Common.{subst}
 use Rattle.cta_model.specs.History.{History}
 use Rattle.cta_model.specs.Legal.{IsLegal}
 use Rattle.durable_archive.specs.Last.{LastHas}

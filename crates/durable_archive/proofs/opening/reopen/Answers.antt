@@ -1,13 +1,11 @@
-use Rattle.std.proofs.Common.{rules, ◌≡◌, ◌∙◌, ◌<◌, ◌^◌, List, ℕ, Err, Ok, Some, ap, refl, sym, subst}
+use Rattle.std.proofs.Common.{rules, ◌∙◌, ap, sym, subst}
 use Rattle.std.specs.Prelude.{map}
-use Rattle.std.specs.List.{AllByRecursion}
 use Rattle.std.proofs.lemmas.List.Elements.{recursion_from_All}
-use Rattle.cta_journal.specs.Log.{HasLog}
 use Rattle.cta_journal.specs.Standing.{StandsFor}
 use Rattle.cta_records.specs.Records.{KeptFits, body_of}
 use Rattle.archive_restore.specs.Logs.{history_of_log}
 use Rattle.durable_archive.specs.Journaled.{LogIsHistory}
-use Rattle.durable_archive.specs.Opened.{IsExcused, IsRefusedFor, of_open, of_restore}
+use Rattle.durable_archive.specs.Opened.{IsExcused, IsRefusedFor}
 use Rattle.durable_archive.proofs.Reopening.{comes_back, log_found, opening_excused, opening_refused, restoring_excused, restoring_refused}
 use Rattle.durable_archive.proofs.opening.reopen.Goals as goal
 

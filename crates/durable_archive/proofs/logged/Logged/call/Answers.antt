@@ -1,8 +1,8 @@
-use Rattle.std.proofs.Common.{◌≡◌, ◌∙◌, ◌∷◌, [], List, ℕ, Bool, true, false, None, ap, refl, sym, subst}
+use Rattle.std.proofs.Common.{◌≡◌, ◌∙◌, List, ℕ, true, false, None, ap, refl, sym, subst}
 use Rattle.cta_journal.specs.Disk.{LeavesOnly}
 use Rattle.cta_journal.specs.Standing.{StandsFor, disk_of}
 use Rattle.durable_archive.specs.Journaled.{IsLogged, LoggedView, sure_of}
-use Rattle.durable_archive.specs.Records.{AreRecordsOf, KeepsBetween}
+use Rattle.durable_archive.specs.Records.{KeepsBetween}
 use Rattle.durable_archive.specs.Turns.{back_adds}
 use Rattle.durable_archive.proofs.Calling.{adds_none, adds_one, appended, failed, kept_on, same_site, untouched, was_false, was_true}
 use Rattle.durable_archive.proofs.logged.Logged.call.Goals as goal

@@ -1,4 +1,4 @@
-use Rattle.std.proofs.Common.{◌≡◌, [], sym, subst}
+use Rattle.std.proofs.Common.{[], sym, subst}
 use Rattle.std.proofs.lemmas.List.{append-nil}
 use Rattle.cta_journal.specs.Standing.{StandsFor}
 use Rattle.durable_archive.specs.Records.{AreRecordsOf}
