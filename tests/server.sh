@@ -7,6 +7,7 @@ name=${name:-$(basename "$0")}
 cases=0
 failed=0
 server=
+journal=
 
 if [ ! -x "$program" ]; then
     echo "tests/$name: $program isn't there; rt ci builds it, as does rt run in crates/cta_main" >&2
@@ -53,14 +54,19 @@ free_port() {
 }
 
 # Starts a server of the site $1 over the folder $2 with $3 workers, and waits until it answers, at most 10 seconds. What stands behind
-# these words is put before the program's name. It leaves `$url`, `$server`, its process, and `$said`, what it says on standard error.
+# these words is put before the program's name. Where `$journal` names a file, the server keeps its history in it. It leaves `$url`, `$server`,
+# its process, and `$said`, what it says on standard error.
 start() {
     local site=$1 media=$2 workers=$3
     shift 3
     port=$(free_port)
     url=http://127.0.0.1:$port
     said=$work/said.$port
-    "$@" "$program" serve "$site" "127.0.0.1:$port" "$media" "$workers" >/dev/null 2>"$said" &
+    if [ -n "$journal" ]; then
+        "$@" "$program" durable "$site" "127.0.0.1:$port" "$media" "$workers" "$journal" >/dev/null 2>"$said" &
+    else
+        "$@" "$program" serve "$site" "127.0.0.1:$port" "$media" "$workers" >/dev/null 2>"$said" &
+    fi
     server=$!
     for _ in $(seq 100); do
         curl -s -o /dev/null -m 1 "$url/.well-known/wlcg-tape-rest-api" && return 0

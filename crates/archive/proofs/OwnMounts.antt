@@ -29,11 +29,11 @@ use Rattle.archive_turns.specs.Laws.{EntriesNameTheirMounts, MountIsKept}
 use Rattle.archive.specs.OwnMounts.{NextOpens, OwnOverTurns, OwnOverJoins, OwnMountStays}
 use Rattle.archive.proofs.Orders.{reverse_more, behind_apart, reverse_behind}
 
-own_number : (m n : ℕ) → (m ≡ n) ⊎ (None ≡ Some m) → m ≡ n
+pub own_number : (m n : ℕ) → (m ≡ n) ⊎ (None ≡ Some m) → m ≡ n
 own_number m n (inl same) = same
 own_number m n (inr asked) = absurd (cc)
 
-at_end : {A : Type 0} (xs : List A) (x : A) → get_elem? (xs ++ x ∷ []) (length xs) ≡ some x
+pub at_end : {A : Type 0} (xs : List A) (x : A) → get_elem? (xs ++ x ∷ []) (length xs) ≡ some x
 at_end [] x = refl
 at_end (y ∷ ys) x = at_end ys x
 

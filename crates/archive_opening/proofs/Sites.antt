@@ -1,5 +1,5 @@
 -- The site that a site file tells.
-use Rattle.std.proofs.Common.{◌≡◌, ◌+◌, ◌≤◌, ℕ, inl, inr, List, length, Bool, false, Option, Some, None, Result, Ok, Err, refl, sym, ap, ◌∙◌, arith, subst}
+use Rattle.std.proofs.Common.{◌≡◌, ◌+◌, ◌≤◌, ℕ, inl, inr, List, length, false, Option, Some, None, Result, Ok, Err, refl, sym, ap, ◌∙◌, arith, subst}
 use Rattle.std.proofs.lemmas.Bool.{cases_Bool}
 use Rattle.std.proofs.lemmas.Bool.Decides.{nat_tests}
 use Rattle.std.specs.Prelude.{MatchResult, nat_le}
@@ -12,29 +12,21 @@ use Rattle.cta_site.specs.Bare.{bare_site}
 use Rattle.cta_site.specs.Faults.{first_fault, IsCauseOf}
 use Rattle.cta_site.specs.Numbering.{IsNumberedFrom}
 use Rattle.site_json.specs.File.{file_fault, file_of, fault_within, site_of}
-use Rattle.cta_model.specs.Kept.{Kept}
 use Rattle.archive_opening.specs.Seen.{SourceView}
-use Rattle.archive_opening.specs.SiteFile.{IsSiteOf, NoSite, site_fault, site_limit}
-use Rattle.archive_opening.specs.SiteReading.{ArchiveMade, NoArchive, SiteRead}
+use Rattle.archive_opening.specs.SiteFile.{IsSiteOf, NoSite, TellsNoSite, site_fault, site_limit}
+use Rattle.archive_opening.specs.SiteReading.{SiteTaken}
 use Rattle.archive_opening.specs.declared.status.Status.{Status}
-use Rattle.archive_opening.specs.declared.status.Status.TheVariants.{Usage, Site as SiteRule, Script, ReadFault, WriteFault, NoMemory, TooLong, ListenFault}
-use Rattle.archive_opening.specs.declared.status.Status.TheVariants as status
+use Rattle.archive_opening.specs.declared.status.Status.TheVariants.{Site as SiteRule, NoMemory}
 
-no_site : (s : Status) (bytes : List ℕ) (a b : SourceView) → Consumes a.left b.left bytes → IsAtEnd b.left → length bytes ≤ site_limit → NoArchive s bytes → NoSite s a b
+no_site : (s : Status) (bytes : List ℕ) (a b : SourceView) → Consumes a.left b.left bytes → IsAtEnd b.left → length bytes ≤ site_limit → TellsNoSite s bytes → NoSite s a b
 no_site (SiteRule rule item) bytes a b took at few h = (bytes, took, inr (at, few), h)
 no_site NoMemory bytes a b took at few h = tt
-no_site status.Ok bytes a b took at few h = h
-no_site Usage bytes a b took at few h = h
-no_site (Script offset) bytes a b took at few h = h
-no_site ReadFault bytes a b took at few h = absurd h
-no_site WriteFault bytes a b took at few h = h
-no_site TooLong bytes a b took at few h = h
-no_site ListenFault bytes a b took at few h = h
+no_site _ bytes a b took at few h = absurd h
 
--- an archive made of the whole site file
-pub site_read : (tells : Bool) (r : Result Kept Status) (bytes : List ℕ) (a b : SourceView) → Consumes a.left b.left bytes → IsAtEnd b.left → length bytes ≤ site_limit → ArchiveMade tells r bytes → SiteRead tells r a b
-site_read tells (Ok archive) bytes a b took at few h = ((bytes, took, at, h.0), h.1)
-site_read tells (Err s) bytes a b took at few h = no_site s bytes a b took at few h
+-- what the whole site file tells
+pub site_told : (r : Result Site Status) (bytes : List ℕ) (a b : SourceView) → Consumes a.left b.left bytes → IsAtEnd b.left → length bytes ≤ site_limit → MatchResult r (IsSiteOf bytes) (λ s. TellsNoSite s bytes) → SiteTaken r a b
+site_told (Ok site) bytes a b took at few h = (bytes, took, at, h)
+site_told (Err s) bytes a b took at few h = no_site s bytes a b took at few h
 
 -- too many bytes break rule 1
 pub too_long : (bytes : List ℕ) → site_limit + 1 ≤ length bytes → site_fault bytes ≡ Some (1, 0)

@@ -5,7 +5,7 @@ use Rattle.cta_site.specs.declared.site.Site.{Site}
 use Rattle.outside.specs.Causes.{Rose}
 use Rattle.archive_opening.specs.Seen.{SourceView}
 use Rattle.archive_opening.specs.declared.status.Status.{Status}
-use Rattle.archive_opening.specs.declared.status.Status.TheVariants.{Ok, Usage, NoMemory, Site as SiteRule, Script, ReadFault, WriteFault, TooLong, ListenFault}
+use Rattle.archive_opening.specs.declared.status.Status.TheVariants.{NoMemory, Site as SiteRule, ReadFault}
 use Rattle.site_json.specs.File.{file_fault, site_of}
 use Rattle.std.specs.Io.KnownBytes.{Consumes, IsAtEnd}
 use Rattle.std.specs.Option.{option_or}
@@ -33,12 +33,13 @@ abbrev pub NoSite : Status → SourceView → SourceView → Type 0
 NoSite (SiteRule rule item) a b = (bytes : List ℕ) × Consumes a.left b.left bytes × IsTakenSite bytes b × (site_fault bytes ≡ Some (rule, item))
 NoSite ReadFault a b = (bytes : List ℕ) × Consumes a.left b.left bytes × (length bytes ≤ site_limit) × Rose a.faults b.faults
 NoSite NoMemory a b = Unit {0}
-NoSite Ok a b = ⊥
-NoSite Usage a b = ⊥
-NoSite (Script offset) a b = ⊥
-NoSite WriteFault a b = ⊥
-NoSite TooLong a b = ⊥
-NoSite ListenFault a b = ⊥
+NoSite _ a b = ⊥
+
+-- why bytes tell no site: the first rule that they break, or memory was wanted
+abbrev pub TellsNoSite : Status → List ℕ → Type 0
+TellsNoSite (SiteRule rule item) bytes = site_fault bytes ≡ Some (rule, item)
+TellsNoSite NoMemory bytes = Unit {0}
+TellsNoSite _ bytes = ⊥
 
 -- the whole site file was read, and tells this site
 abbrev pub ReadsSite : SourceView → SourceView → Site → Type 0

@@ -7,11 +7,11 @@ use Rattle.cta_site.specs.declared.site.Site.{Site}
 use Rattle.outside.specs.Causes.{Rose}
 use Rattle.archive_opening.specs.Made.{AreNewMedia}
 use Rattle.archive_opening.specs.Seen.{SourceView}
-use Rattle.archive_opening.specs.SiteFile.{IsSiteOf, NoSite, ReadsSite, site_limit, site_fault}
+use Rattle.archive_opening.specs.SiteFile.{NoSite, ReadsSite, site_limit}
 use Rattle.archive_opening.specs.declared.site.SiteEnd.{SiteEnd}
 use Rattle.archive_opening.specs.declared.site.SiteEnd.TheVariants.{Fault, Memory, Whole, Long}
 use Rattle.archive_opening.specs.declared.status.Status.{Status}
-use Rattle.archive_opening.specs.declared.status.Status.TheVariants.{Ok, Usage, NoMemory, Site as SiteRule, Script, ReadFault, WriteFault, TooLong, ListenFault}
+use Rattle.archive_opening.specs.declared.status.Status.TheVariants.{NoMemory, Site as SiteRule}
 use Rattle.std.specs.Io.KnownBytes.{Consumes, IsAtEnd}
 use Rattle.std.specs.Prelude.{◌≡◌, ℕ, Bool, List, Some, [], length, map, ◌+◌, ◌≤◌, Result, MatchResult}
 
@@ -32,30 +32,14 @@ TookSite Long a b bytes = Consumes a.left b.left bytes × (length bytes ≡ site
 TookSite Fault a b bytes = Consumes a.left b.left bytes × (length bytes ≤ site_limit) × Rose a.faults b.faults
 TookSite Memory a b bytes = Unit {0}
 
--- the archive has kept nothing yet, over media that a bench has made, and its site is the one that the bytes tell
-abbrev pub IsArchiveOf : Bool → List ℕ → Kept → Type 0
-IsArchiveOf tells bytes archive = IsSiteOf bytes archive.site × IsOpened tells archive
-
 -- a site that is refused gives the status of its rule, and want of memory its own
 abbrev pub IsStatusOf : SiteError → Status → Type 0
 IsStatusOf (error.Fault rule item) status = status ≡ SiteRule rule item
 IsStatusOf error.NoMemory status = status ≡ NoMemory
 
--- why no archive was made of bytes: the first rule that they break, or memory was wanted
-abbrev pub NoArchive : Status → List ℕ → Type 0
-NoArchive (SiteRule rule item) bytes = site_fault bytes ≡ Some (rule, item)
-NoArchive NoMemory bytes = Unit {0}
-NoArchive Ok bytes = ⊥
-NoArchive Usage bytes = ⊥
-NoArchive (Script offset) bytes = ⊥
-NoArchive ReadFault bytes = ⊥
-NoArchive WriteFault bytes = ⊥
-NoArchive TooLong bytes = ⊥
-NoArchive ListenFault bytes = ⊥
-
--- an archive was made of bytes, or not and why
-abbrev pub ArchiveMade : Bool → Result Kept Status → List ℕ → Type 0
-ArchiveMade tells r bytes = MatchResult r (IsArchiveOf tells bytes) (λ status. NoArchive status bytes)
+-- the site that the file tells, or why there is none
+abbrev pub SiteTaken : Result Site Status → SourceView → SourceView → Type 0
+SiteTaken r a b = MatchResult r (ReadsSite a b) (λ status. NoSite status a b)
 
 -- an archive of the site that the file tells, over media that a bench has made, or why there is none
 abbrev pub SiteRead : Bool → Result Kept Status → SourceView → SourceView → Type 0

@@ -10,8 +10,9 @@ use media::{Bench, TapeDrive};
 use std::alloc::Global;
 use std::hash::RandomState;
 
-// The medium of each tape of a site, in order of their numbers, as the bench makes them.
-fn media_of<D: TapeDrive, B: Bench<D>>(
+/// The medium of each tape of a site, in order of their numbers, as the bench makes them. NoMemory lets those go that were made. Its cost is
+/// the number of tapes, and what each medium costs the bench. This project's own.
+pub fn media_of<D: TapeDrive, B: Bench<D>>(
     alloc: Global,
     site: &ValidSite,
     bench: &mut B,

@@ -2,8 +2,8 @@
 ghost use Rattle.std.specs.Prelude.{◌≡◌, [], MatchResult};
 ghost use Rattle.cta_site.specs.Faults.{IsCauseOf};
 ghost use Rattle.archive_opening.specs.Seen.{source_view};
-ghost use Rattle.archive_opening.specs.SiteFile.{IsSiteOf, site_fault};
-ghost use Rattle.archive_opening.specs.SiteReading.{ArchiveMade, IsStatusOf, SiteRead, TookSite};
+ghost use Rattle.archive_opening.specs.SiteFile.{IsSiteOf, TellsNoSite, site_fault};
+ghost use Rattle.archive_opening.specs.SiteReading.{IsStatusOf, SiteRead, SiteTaken, TookSite};
 
 use crate::opening::open_archive;
 use crate::status::Status;
@@ -75,36 +75,43 @@ fn site_of(alloc: Global, bytes: &[u8]) -> Result<ValidSite, SiteError>
     }
 }
 
-// An archive of the site that these bytes tell, with the media that the bench makes.
-fn archive_of<D: TapeDrive, B: Bench<D>>(
-    alloc: Global,
-    bytes: &[u8],
-    bench: &mut B,
-    keys: RandomState,
-) -> Result<Archive<D::Medium>, Status>
-    ensures made { ArchiveMade (B.tells bench.old) result bytes.now }
-    ensures tells { B.tells bench.new ≡ B.tells bench.old }
+// The valid site that these bytes tell, or the status of the first rule that they break.
+fn told_site(alloc: Global, bytes: &[u8]) -> Result<ValidSite, Status>
+    ensures { MatchResult result (IsSiteOf bytes.now) (λ status. TellsNoSite status bytes.now) }
 {
     match site_of(alloc, bytes) {
-        Ok(site) => match open_archive(alloc, site, bench, keys) {
-            Ok(archive) => Ok(archive),
-            Err(_) => Err(Status::NoMemory),
-        },
+        Ok(site) => Ok(site),
         Err(error) => Err(refused(error)),
     }
 }
 
-/// An archive of the site that a site file tells, which has kept nothing yet, with the media that a bench makes; or why there is none.
-///
-/// `site` gives the site file, of at most 16,777,216 bytes, which is read whole before anything is made. Paths are hashed with `keys`.
-/// - `Ok`: all bytes of the source were taken, they break none of the thirty rules of a site file, and the archive's site is what they
-///   tell, its numbered lists in order.
+/// The site that a site file tells, or why there is none. `site` gives the file, of at most 16,777,216 bytes, which is read whole before
+/// anything is made.
+/// - `Ok`: all bytes of the source were taken, they break none of the thirty rules of a site file, and this is the site that they tell, its
+///   numbered lists in order.
 /// - `Site`: they break this rule, of the thirty rules the first, and first at this item of its list (0 where the rule speaks of no
 ///   element). All bytes were taken, or one more than a site file may have, which breaks rule 1.
 /// - `ReadFault`: the source's count of faults rose in this call, with no more bytes taken than a site file may have.
 /// - `NoMemory`: memory was wanted. What was taken of the source is lost.
 ///
-/// No other status is answered. It always returns. This project's own.
+/// No other status is answered. It always returns. Its cost is the bytes of the file. This project's own.
+pub fn read_valid_site<A: Source>(alloc: Global, site: &mut A) -> Result<ValidSite, Status>
+    ensures { SiteTaken result (source_view (A.left site.old) (A.faults site.old)) (source_view (A.left site.new) (A.faults site.new)) }
+{
+    let mut bytes = Vec::new(alloc);
+    match take_site(site, &mut bytes) {
+        SiteEnd::Whole => told_site(alloc, &bytes),
+        SiteEnd::Long => Err(Status::Site { rule: 1, item: 0 }),
+        SiteEnd::Fault => Err(Status::ReadFault),
+        SiteEnd::Memory => Err(Status::NoMemory),
+    }
+}
+
+/// An archive of the site that a site file tells, which has kept nothing yet, with the media that a bench makes; or why there is none.
+///
+/// The site file is read as `read_valid_site` reads it, whose statuses are the ones that come, and no other; paths are hashed with `keys`.
+/// The archive's site is what the file tells. NoMemory comes also where there is none for the archive. It always returns. Its cost is that of
+/// `read_valid_site` and of `open_archive`. This project's own.
 pub fn read_archive<A: Source, D: TapeDrive, B: Bench<D>>(
     alloc: Global,
     site: &mut A,
@@ -114,11 +121,11 @@ pub fn read_archive<A: Source, D: TapeDrive, B: Bench<D>>(
     ensures read { SiteRead (B.tells bench.old) result (source_view (A.left site.old) (A.faults site.old)) (source_view (A.left site.new) (A.faults site.new)) }
     ensures tells { B.tells bench.new ≡ B.tells bench.old }
 {
-    let mut bytes = Vec::new(alloc);
-    match take_site(site, &mut bytes) {
-        SiteEnd::Whole => archive_of(alloc, &bytes, bench, keys),
-        SiteEnd::Long => Err(Status::Site { rule: 1, item: 0 }),
-        SiteEnd::Fault => Err(Status::ReadFault),
-        SiteEnd::Memory => Err(Status::NoMemory),
+    match read_valid_site(alloc, site) {
+        Ok(valid) => match open_archive(alloc, valid, bench, keys) {
+            Ok(archive) => Ok(archive),
+            Err(_) => Err(Status::NoMemory),
+        },
+        Err(status) => Err(status),
     }
 }

@@ -1,6 +1,6 @@
 // How a run ends.
 
-/// How a run of the program ends. The numbers that a program ends with are 0 and 2 to 9.
+/// How a run of the program ends. The numbers that a program ends with are 0, 2 to 9 and 12 to 14.
 #[derive(Clone, Copy, Debug, PartialEq, Eq)]
 pub enum Status {
     /// All was done: a script was read to its line `end` (0).
@@ -21,4 +21,10 @@ pub enum Status {
     TooLong,
     /// The address could not be listened on (9).
     ListenFault,
+    /// The disk of the journal failed, or can't be had (12).
+    JournalFault,
+    /// The journal can't be read from this offset on, in bytes (13).
+    JournalDamaged { offset: u64 },
+    /// The record of this number, from 1, is the journal's first that is wrong (14).
+    JournalDiffers { entry: u32 },
 }

@@ -161,7 +161,7 @@ count_reverse j (k ∷ js) = ap (count_job j) (reverse_first k js) ∙ omega (ar
 
 -- ---- the jobs that a mount claims
 
-members : (site : Site) (h : History) → IsLegal site h → (m : ℕ) (j : Job) → has_job j (claimed_jobs site h m) ≡ claims h m j
+pub members : (site : Site) (h : History) → IsLegal site h → (m : ℕ) (j : Job) → has_job j (claimed_jobs site h m) ≡ claims h m j
 members site h legal m j =
     has_filter (claims h m) j (jobs_born site h)
     ∙ elim (bool_cases (claims h m j)) [

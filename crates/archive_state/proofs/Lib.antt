@@ -14,4 +14,4 @@ mod KnownJobs
 mod FailedTold
 mod TapesTold
 mod Shares
-mod ItemJobs
+pub mod ItemJobs

@@ -1,7 +1,7 @@
 -- How the program ends, and which file it reads.
 use Rattle.std.specs.Prelude.{◌≡◌, ℕ, List, [], ◌∷◌}
 use Rattle.archive_opening.specs.declared.status.Status.{Status}
-use Rattle.archive_opening.specs.declared.status.Status.TheVariants.{Ok, Usage, Site, Script, ReadFault, WriteFault, NoMemory, TooLong, ListenFault}
+use Rattle.archive_opening.specs.declared.status.Status.TheVariants.{Ok, Usage, Site, Script, ReadFault, WriteFault, NoMemory, TooLong, ListenFault, JournalFault, JournalDamaged, JournalDiffers}
 
 -- the number that the process ends with; 1, 10 and 11 are not used
 abbrev pub exit_number : Status → ℕ
@@ -14,6 +14,9 @@ exit_number WriteFault = 6
 exit_number NoMemory = 7
 exit_number TooLong = 8
 exit_number ListenFault = 9
+exit_number JournalFault = 12
+exit_number (JournalDamaged offset) = 13
+exit_number (JournalDiffers entry) = 14
 
 -- the number is that of a status of which this holds
 abbrev pub IsNumberOf : (Status → Type 0) → ℕ → Type 0

@@ -21,6 +21,57 @@ fn say_left_alone<E: Eprint>(errors: &E, vid: &str) {
     let _ = eprintln!(errors; "cta: tape {vid} has records of an earlier run and is not loaded");
 }
 
+// A bench over a folder whose records it goes on with, which counts the drives that it makes, and says where the folder can't be listed.
+#[derive(Drop)]
+pub(crate) struct ResumingBench<'r, R: Files + Eprint> {
+    rt: &'r R,
+    bench: FileBench<'r, R>,
+    muster: &'r Muster,
+    is_told: bool,
+}
+
+impl<'r, R: Files + Eprint> ResumingBench<'r, R> {
+    pub(crate) fn new(
+        rt: &'r R,
+        bench: FileBench<'r, R>,
+        muster: &'r Muster,
+    ) -> ResumingBench<'r, R> {
+        ResumingBench {
+            rt,
+            bench,
+            muster,
+            is_told: false,
+        }
+    }
+}
+
+// Says that the folder can't be listed. That this may fail is not told.
+fn say_not_listed<E: Eprint>(errors: &E) {
+    let _ = eprintln!(errors; "cta: media folder can't be listed, and no tape is loaded");
+}
+
+impl<'r, R: Files + Eprint> Bench<FileDrive<MachineDisk<'r, R>>> for ResumingBench<'r, R> {
+    ghost tells = { λ _. false };
+
+    fn drive(
+        &mut self,
+        site: &ValidSite,
+        drive: u32,
+    ) -> Result<FileDrive<MachineDisk<'r, R>>, NoMemory> {
+        self.muster.add_drive();
+        self.bench.drive(site, drive)
+    }
+
+    fn medium(&mut self, site: &ValidSite, tape: u32) -> Result<FileMedium, NoMemory> {
+        let medium = self.bench.medium(site, tape)?;
+        if !self.bench.loads(tape) && !self.is_told {
+            say_not_listed(self.rt);
+            self.is_told = true;
+        }
+        Ok(medium)
+    }
+}
+
 impl<'r, R: Files + Eprint> Bench<FileDrive<MachineDisk<'r, R>>> for ToldBench<'r, R> {
     ghost tells = { λ _. false };
 

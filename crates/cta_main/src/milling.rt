@@ -20,14 +20,6 @@ use std::time::{Clock, Duration};
 // for files take few turns.
 const PAUSE: u64 = 100;
 
-// Whether the words behind the program's name are meant for a mill: the first of them says so.
-pub(crate) fn begins_mill(arguments: &[String]) -> bool {
-    match words_of(arguments) {
-        [first, ..] => first.as_str() == "mill",
-        [] => false,
-    }
-}
-
 // Runs a mill by the words behind the program's name, prints the line of the status, and gives the number that the process is to end with.
 fn mill_with<
     R: Threads + Wait + Sync + Eprint,

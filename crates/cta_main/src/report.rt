@@ -19,6 +19,9 @@ fn number(status: Status) -> u8
         Status::NoMemory => 7,
         Status::TooLong => 8,
         Status::ListenFault => 9,
+        Status::JournalFault => 12,
+        Status::JournalDamaged { .. } => 13,
+        Status::JournalDiffers { .. } => 14,
     }
 }
 
@@ -36,6 +39,9 @@ fn complain<E: Eprint>(errors: &E, status: Status) {
         Status::NoMemory => eprintln!(errors; "cta: no memory"),
         Status::TooLong => eprintln!(errors; "cta: script too long"),
         Status::ListenFault => eprintln!(errors; "cta: listen fault"),
+        Status::JournalFault => eprintln!(errors; "cta: journal fault"),
+        Status::JournalDamaged { offset } => eprintln!(errors; "cta: journal damaged at {offset}"),
+        Status::JournalDiffers { entry } => eprintln!(errors; "cta: journal differs at {entry}"),
     };
 }
 

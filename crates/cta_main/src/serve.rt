@@ -28,10 +28,10 @@ use std::time;
 use std::time::Duration;
 
 // How long a link may say nothing, in seconds.
-const SILENCE: u64 = 30;
+pub(crate) const SILENCE: u64 = 30;
 
 // How long an idle worker of a drive pauses, in milliseconds, and the one that tells links that the server is busy. Workers of links are woken.
-const PAUSE: u64 = 50;
+pub(crate) const PAUSE: u64 = 50;
 
 // Serves by the words behind the program's name, prints the line of the status, and gives the number that the process is to end with.
 pub(crate) fn serve_with<
@@ -79,7 +79,7 @@ fn say_not_usable<E: Eprint>(errors: &E) {
 }
 
 // The lock of the folder, None where it can't be had.
-fn lock_of<R: Files<File = File>>(
+pub(crate) fn lock_of<R: Files<File = File>>(
     alloc: Global,
     rt: &R,
     folder: &str,
@@ -93,13 +93,13 @@ fn lock_of<R: Files<File = File>>(
 
 // The address that is listened at: the one of the words, where this process has the folder of the media for itself. No one listens at an
 // empty address.
-fn address_of<'a, E: Eprint>(
+pub(crate) fn address_of<'a, E: Eprint>(
     errors: &E,
-    words: &ServeWords<'a>,
+    addr: &'a str,
     lock: &Option<FolderLock>,
 ) -> &'a str {
     if lock.is_some() {
-        words.addr
+        addr
     } else {
         say_not_usable(errors);
         ""
@@ -132,7 +132,7 @@ fn serve_words<
     };
     let lock = lock_of(alloc, files, words.media)?;
     let muster = Muster::new(rt, words.workers);
-    let address = address_of(rt, words, &lock);
+    let address = address_of(rt, words.addr, &lock);
     let listener = TcpDoor::open(rt, address, Duration::from_secs(SILENCE));
     let mut door = WatchedDoor::new(rt, listener, &muster);
     let pause = PauseGate::new(rt, Duration::from_millis(PAUSE));

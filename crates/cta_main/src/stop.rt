@@ -3,8 +3,10 @@
 ghost use Rattle.std.specs.Prelude.{◌≡◌};
 
 use crate::bell::Bell;
+use durable_server::Alarm;
 use outside::{Failed, Gate, Listener};
 use std::io::Eprint;
+use std::net::{Net, SocketAddr, TcpStream};
 use std::sync::Wait;
 use std::sync::atomic::{AtomicBool, AtomicU32, AtomicU64, Ordering};
 use std::thread;
@@ -155,6 +157,10 @@ impl<R: Clock + Eprint, L: Listener> Listener for WatchedDoor<'_, R, L> {
             self.faults = self.faults.saturating_add(1);
             return Err(Failed);
         }
+        if !self.muster.is_open() {
+            self.faults = self.faults.saturating_add(1);
+            return Err(Failed);
+        }
         // Who asks for the next link has put the last one where workers look.
         if self.is_told {
             self.muster.bell.ring();
@@ -168,6 +174,40 @@ impl<R: Clock + Eprint, L: Listener> Listener for WatchedDoor<'_, R, L> {
             self.faults = self.faults.saturating_add(1);
         }
         next
+    }
+}
+
+// An alarm that lets no link come any more. Who waits for the next one is woken by a connection, which is served nothing.
+#[derive(Drop)]
+pub(crate) struct DoorAlarm<'a, R> {
+    rt: &'a R,
+    address: Option<SocketAddr>,
+    muster: &'a Muster,
+}
+
+impl<'a, R> DoorAlarm<'a, R> {
+    pub(crate) fn new(
+        rt: &'a R,
+        address: Option<SocketAddr>,
+        muster: &'a Muster,
+    ) -> DoorAlarm<'a, R> {
+        DoorAlarm {
+            rt,
+            address,
+            muster,
+        }
+    }
+}
+
+impl<R: Net> Alarm for DoorAlarm<'_, R> {
+    fn ring(&self) {
+        if !self.muster.is_open() {
+            return;
+        }
+        self.muster.shut();
+        if let Some(address) = self.address {
+            let _ = TcpStream::connect(self.rt, address);
+        }
     }
 }
 

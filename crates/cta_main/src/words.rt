@@ -40,6 +40,14 @@ pub(crate) fn words_of(arguments: &[String]) -> &[String]
     }
 }
 
+// Whether the first of the words behind the program's name is this one: the name of the run that they are meant for.
+pub(crate) fn begins_with(arguments: &[String], name: &str) -> bool {
+    match words_of(arguments) {
+        [first, ..] => first.as_str() == name,
+        [] => false,
+    }
+}
+
 // The path of the site file, where the words have the form that is built; otherwise a path that no file has.
 pub(crate) fn site_path(alloc: Global, arguments: &[String]) -> Result<&str, Status>
     ensures { let words = map string_bytes (drop 1 arguments.now) in (form : Form) → Spells words form → IfOk result (λ path. path.now ≡ site_word words) }
@@ -48,6 +56,7 @@ pub(crate) fn site_path(alloc: Global, arguments: &[String]) -> Result<&str, Sta
         Ok(Form::Replay { site }) => Ok(site),
         Ok(Form::Serve { .. }) => Ok(""),
         Ok(Form::Mill { .. }) => Ok(""),
+        Ok(Form::Durable { .. }) => Ok(""),
         Err(WordsError::Usage) => Ok(""),
         Err(WordsError::NoMemory) => Err(Status::NoMemory),
     }

@@ -1,4 +1,4 @@
--- What the three subcommands make of plain words.
+-- What the four subcommands make of plain words.
 use Rattle.std.proofs.Common.{◌≡◌, ◌∙◌, ◌+◌, ap, refl, sym, false, suc, arith, List, [], ◌∷◌, Some, codes, ℕ}
 use Rattle.std.specs.List.{All}
 use Rattle.clap.specs.Kinds.{Kinds, or_else}
@@ -8,8 +8,8 @@ use Rattle.clap.specs.Simple.{Shape, built_leaf, inherited}
 use Rattle.clap.specs.Faults.{check_fault, defaults_fault, level_fault, settle_fault, step_fault}
 use Rattle.clap.proofs.OnLiterals.{clap_on_literals}
 use Rattle.cta_words.specs.Words.{IsPlainWord}
-use Rattle.cta_words.specs.Commands.{cta_app, mill_app, replay_app, serve_app}
-use Rattle.cta_words.specs.Found.{mill_words, replay_words, serve_words}
+use Rattle.cta_words.specs.Commands.{cta_app, durable_app, mill_app, replay_app, serve_app}
+use Rattle.cta_words.specs.Found.{durable_words, mill_words, replay_words, serve_words}
 use Rattle.cta_words.proofs.Turns.{before, placed, plain_run, run}
 
 -- `replay` as `clap` builds it
@@ -23,6 +23,10 @@ serve_leaf = built_leaf (inherited cta_app.top serve_app.top)
 -- `mill` as `clap` builds it
 abbrev pub mill_leaf : Shape
 mill_leaf = built_leaf (inherited cta_app.top mill_app.top)
+
+-- `durable` as `clap` builds it
+abbrev pub durable_leaf : Shape
+durable_leaf = built_leaf (inherited cta_app.top durable_app.top)
 
 -- how such a command fails
 abbrev pub leaf_fault : Shape → List Text → Kinds
@@ -198,4 +202,80 @@ mill_only (seed ∷ files ∷ workers ∷ extra ∷ more) plain none =
     ∙ goes mill_leaf (held_after mill_leaf nothing_held 1 (seed ∷ files ∷ [])) 3 workers (extra ∷ more) p2
     ∙ goes mill_leaf (held_after mill_leaf nothing_held 1 (seed ∷ files ∷ workers ∷ [])) 4 extra more p3 in
     let bad : UnknownArgument ∷ [] ≡ [] = sym (ap (fault_after mill_leaf) end) ∙ none in
+    cc
+
+-- ---- `durable`
+
+-- the walk over its words ends with no fault
+durable_done : (site addr media workers journal : Text) → All IsPlainWord (site ∷ addr ∷ media ∷ workers ∷ journal ∷ [])
+    → run durable_leaf start (site ∷ addr ∷ media ∷ workers ∷ journal ∷ []) ≡ (before (held_after durable_leaf nothing_held 1 (site ∷ addr ∷ media ∷ workers ∷ journal ∷ [])) 6, [])
+unfolding clap_on_literals
+durable_done site addr media workers journal plain =
+    let p1 = rest_plain site (addr ∷ media ∷ workers ∷ journal ∷ []) plain in
+    let p2 = rest_plain addr (media ∷ workers ∷ journal ∷ []) p1 in
+    let p3 = rest_plain media (workers ∷ journal ∷ []) p2 in
+    let p4 = rest_plain workers (journal ∷ []) p3 in
+    goes durable_leaf nothing_held 1 site (addr ∷ media ∷ workers ∷ journal ∷ []) plain
+    ∙ goes durable_leaf (held_after durable_leaf nothing_held 1 (site ∷ [])) 2 addr (media ∷ workers ∷ journal ∷ []) p1
+    ∙ goes durable_leaf (held_after durable_leaf nothing_held 1 (site ∷ addr ∷ [])) 3 media (workers ∷ journal ∷ []) p2
+    ∙ goes durable_leaf (held_after durable_leaf nothing_held 1 (site ∷ addr ∷ media ∷ [])) 4 workers (journal ∷ []) p3
+    ∙ goes durable_leaf (held_after durable_leaf nothing_held 1 (site ∷ addr ∷ media ∷ workers ∷ [])) 5 journal [] p4
+
+-- its words pass
+pub durable_passes : (site addr media workers journal : Text) → All IsPlainWord (site ∷ addr ∷ media ∷ workers ∷ journal ∷ []) → leaf_fault durable_leaf (site ∷ addr ∷ media ∷ workers ∷ journal ∷ []) ≡ []
+unfolding clap_on_literals
+durable_passes site addr media workers journal plain = ap (fault_after durable_leaf) (durable_done site addr media workers journal plain)
+
+-- and are found
+pub durable_reads : (site addr media workers journal : Text) → All IsPlainWord (site ∷ addr ∷ media ∷ workers ∷ journal ∷ [])
+    → durable_words (rows_after durable_leaf.rules [] (site ∷ addr ∷ media ∷ workers ∷ journal ∷ [])) ≡ Some (codes "durable" ∷ site ∷ addr ∷ media ∷ workers ∷ journal ∷ [])
+unfolding clap_on_literals
+durable_reads site addr media workers journal plain = ap (λ (end : Walk × Kinds). durable_words (finished durable_leaf.rules end.0.held)) (durable_done site addr media workers journal plain)
+
+-- and no others pass
+pub durable_only : (words : List Text) → All IsPlainWord words → leaf_fault durable_leaf words ≡ [] → (site : Text) × (addr : Text) × (media : Text) × (workers : Text) × (journal : Text) × (words ≡ site ∷ addr ∷ media ∷ workers ∷ journal ∷ [])
+unfolding clap_on_literals
+durable_only [] plain none = cc
+durable_only (site ∷ []) plain none =
+    let end = goes durable_leaf nothing_held 1 site [] plain in
+    let bad : MissingRequiredArgument ∷ [] ≡ [] = sym (ap (fault_after durable_leaf) end) ∙ none in
+    cc
+durable_only (site ∷ addr ∷ []) plain none =
+    let p1 = rest_plain site (addr ∷ []) plain in
+    let end = goes durable_leaf nothing_held 1 site (addr ∷ []) plain
+    ∙ goes durable_leaf (held_after durable_leaf nothing_held 1 (site ∷ [])) 2 addr [] p1 in
+    let bad : MissingRequiredArgument ∷ [] ≡ [] = sym (ap (fault_after durable_leaf) end) ∙ none in
+    cc
+durable_only (site ∷ addr ∷ media ∷ []) plain none =
+    let p1 = rest_plain site (addr ∷ media ∷ []) plain in
+    let p2 = rest_plain addr (media ∷ []) p1 in
+    let end = goes durable_leaf nothing_held 1 site (addr ∷ media ∷ []) plain
+    ∙ goes durable_leaf (held_after durable_leaf nothing_held 1 (site ∷ [])) 2 addr (media ∷ []) p1
+    ∙ goes durable_leaf (held_after durable_leaf nothing_held 1 (site ∷ addr ∷ [])) 3 media [] p2 in
+    let bad : MissingRequiredArgument ∷ [] ≡ [] = sym (ap (fault_after durable_leaf) end) ∙ none in
+    cc
+durable_only (site ∷ addr ∷ media ∷ workers ∷ []) plain none =
+    let p1 = rest_plain site (addr ∷ media ∷ workers ∷ []) plain in
+    let p2 = rest_plain addr (media ∷ workers ∷ []) p1 in
+    let p3 = rest_plain media (workers ∷ []) p2 in
+    let end = goes durable_leaf nothing_held 1 site (addr ∷ media ∷ workers ∷ []) plain
+    ∙ goes durable_leaf (held_after durable_leaf nothing_held 1 (site ∷ [])) 2 addr (media ∷ workers ∷ []) p1
+    ∙ goes durable_leaf (held_after durable_leaf nothing_held 1 (site ∷ addr ∷ [])) 3 media (workers ∷ []) p2
+    ∙ goes durable_leaf (held_after durable_leaf nothing_held 1 (site ∷ addr ∷ media ∷ [])) 4 workers [] p3 in
+    let bad : MissingRequiredArgument ∷ [] ≡ [] = sym (ap (fault_after durable_leaf) end) ∙ none in
+    cc
+durable_only (site ∷ addr ∷ media ∷ workers ∷ journal ∷ []) plain none = (site, addr, media, workers, journal, refl)
+durable_only (site ∷ addr ∷ media ∷ workers ∷ journal ∷ extra ∷ more) plain none =
+    let p1 = rest_plain site (addr ∷ media ∷ workers ∷ journal ∷ extra ∷ more) plain in
+    let p2 = rest_plain addr (media ∷ workers ∷ journal ∷ extra ∷ more) p1 in
+    let p3 = rest_plain media (workers ∷ journal ∷ extra ∷ more) p2 in
+    let p4 = rest_plain workers (journal ∷ extra ∷ more) p3 in
+    let p5 = rest_plain journal (extra ∷ more) p4 in
+    let end = goes durable_leaf nothing_held 1 site (addr ∷ media ∷ workers ∷ journal ∷ extra ∷ more) plain
+    ∙ goes durable_leaf (held_after durable_leaf nothing_held 1 (site ∷ [])) 2 addr (media ∷ workers ∷ journal ∷ extra ∷ more) p1
+    ∙ goes durable_leaf (held_after durable_leaf nothing_held 1 (site ∷ addr ∷ [])) 3 media (workers ∷ journal ∷ extra ∷ more) p2
+    ∙ goes durable_leaf (held_after durable_leaf nothing_held 1 (site ∷ addr ∷ media ∷ [])) 4 workers (journal ∷ extra ∷ more) p3
+    ∙ goes durable_leaf (held_after durable_leaf nothing_held 1 (site ∷ addr ∷ media ∷ workers ∷ [])) 5 journal (extra ∷ more) p4
+    ∙ goes durable_leaf (held_after durable_leaf nothing_held 1 (site ∷ addr ∷ media ∷ workers ∷ journal ∷ [])) 6 extra more p5 in
+    let bad : UnknownArgument ∷ [] ≡ [] = sym (ap (fault_after durable_leaf) end) ∙ none in
     cc

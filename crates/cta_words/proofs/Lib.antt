@@ -4,3 +4,4 @@ mod Lines
 mod Answered
 mod Spelled
 mod Served
+mod Journaled

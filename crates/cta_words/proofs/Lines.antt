@@ -16,9 +16,9 @@ use Rattle.cta_words.specs.Words.{IsPlainWord, form_words}
 use Rattle.cta_words.specs.Commands.{cta_app}
 use Rattle.cta_words.specs.Found.{words_found}
 use Rattle.cta_words.specs.declared.form.Form.{Form}
-use Rattle.cta_words.specs.declared.form.Form.TheVariants.{Replay, Serve, Mill}
+use Rattle.cta_words.specs.declared.form.Form.TheVariants.{Replay, Serve, Mill, Durable}
 use Rattle.cta_words.proofs.Turns.{plain_turn}
-use Rattle.cta_words.proofs.Leaves.{first_plain, leaf_fault, mill_leaf, mill_only, mill_passes, mill_reads, replay_leaf, replay_only, replay_passes, replay_reads, rest_plain, serve_leaf, serve_only, serve_passes, serve_reads}
+use Rattle.cta_words.proofs.Leaves.{durable_leaf, durable_only, durable_passes, durable_reads, first_plain, leaf_fault, mill_leaf, mill_only, mill_passes, mill_reads, replay_leaf, replay_only, replay_passes, replay_reads, rest_plain, serve_leaf, serve_only, serve_passes, serve_reads}
 
 -- `cta` as `clap` builds it
 abbrev cta_built : App
@@ -87,22 +87,35 @@ unfolding clap_on_literals
 mill_found words = ap (λ (end : Walk). entered cta_built end.stopped)
     (sym (walk_stopped cta_built.top.rules cta_names (walk_from nothing_held) (codes "mill") [] words))
 
+-- behind `durable` the fault is that of the subcommand
+durable_fault : (words : List Text) → fault_of cta_app (codes "durable" ∷ words) ≡ or_else (leaf_fault durable_leaf words) []
+unfolding clap_on_literals
+durable_fault words = ap₂ top_fault (sym (walk_stopped cta_built.top.rules cta_names (walk_from nothing_held) (codes "durable") [] words))
+    (stopped_fault cta_built.top cta_names (walk_from nothing_held) (codes "durable", []) words)
+
+-- and what is found is what the subcommand finds
+durable_found : (words : List Text) → subcommand_of cta_app (codes "durable" ∷ words) ≡ Some (codes "durable", rows_after durable_leaf.rules [] words)
+unfolding clap_on_literals
+durable_found words = ap (λ (end : Walk). entered cta_built end.stopped)
+    (sym (walk_stopped cta_built.top.rules cta_names (walk_from nothing_held) (codes "durable") [] words))
+
 -- ---- the first word
 
 -- the word is the name of a subcommand
 abbrev Named : Text → Type 0
-Named word = (word ≡ codes "replay") ⊎ ((word ≡ codes "serve") ⊎ (word ≡ codes "mill"))
+Named word = (word ≡ codes "replay") ⊎ ((word ≡ codes "serve") ⊎ ((word ≡ codes "mill") ⊎ (word ≡ codes "durable")))
 
 -- a word is the name of a subcommand, or names none
 first_word : (word : Text) → Named word ⊎ (subcommand_met cta_names idle word ≡ None)
-first_word word = go (bytes_eq (codes "replay") word) (bytes_eq (codes "serve") word) (bytes_eq (codes "mill") word) refl refl refl
+first_word word = go (bytes_eq (codes "replay") word) (bytes_eq (codes "serve") word) (bytes_eq (codes "mill") word) (bytes_eq (codes "durable") word) refl refl refl refl
   where
-    go : (x y z : Bool) → bytes_eq (codes "replay") word ≡ x → bytes_eq (codes "serve") word ≡ y → bytes_eq (codes "mill") word ≡ z
-        → Named word ⊎ (subcommand_met cta_names idle word ≡ None)
-    go true y z is_x is_y is_z = inl (inl (sym ((bytes_eq-Decides (codes "replay") word).0 is_x)))
-    go false true z is_x is_y is_z = inl (inr (inl (sym ((bytes_eq-Decides (codes "serve") word).0 is_y))))
-    go false false true is_x is_y is_z = inl (inr (inr (sym ((bytes_eq-Decides (codes "mill") word).0 is_z))))
-    go false false false is_x is_y is_z = inr (rw (is_x, is_y, is_z) refl)
+    go : (x y z u : Bool) → bytes_eq (codes "replay") word ≡ x → bytes_eq (codes "serve") word ≡ y → bytes_eq (codes "mill") word ≡ z
+        → bytes_eq (codes "durable") word ≡ u → Named word ⊎ (subcommand_met cta_names idle word ≡ None)
+    go true y z u is_x is_y is_z is_u = inl (inl (sym ((bytes_eq-Decides (codes "replay") word).0 is_x)))
+    go false true z u is_x is_y is_z is_u = inl (inr (inl (sym ((bytes_eq-Decides (codes "serve") word).0 is_y))))
+    go false false true u is_x is_y is_z is_u = inl (inr (inr (inl (sym ((bytes_eq-Decides (codes "mill") word).0 is_z)))))
+    go false false false true is_x is_y is_z is_u = inl (inr (inr (inr (sym ((bytes_eq-Decides (codes "durable") word).0 is_u)))))
+    go false false false false is_x is_y is_z is_u = inr (rw (is_x, is_y, is_z, is_u) refl)
 
 -- a plain word that names no subcommand is refused
 stray_word : (word : Text) (words : List Text) → IsPlainWord word → subcommand_met cta_names idle word ≡ None
@@ -126,6 +139,9 @@ form_passes (Serve site addr media workers) plain =
 form_passes (Mill seed files workers) plain =
     let words : List Text = seed.now ∷ files.now ∷ workers.now ∷ [] in
     mill_fault words ∙ ap (λ k. or_else k []) (mill_passes seed.now files.now workers.now (rest_plain (codes "mill") words plain))
+form_passes (Durable site addr media workers journal) plain =
+    let words : List Text = site.now ∷ addr.now ∷ media.now ∷ workers.now ∷ journal.now ∷ [] in
+    durable_fault words ∙ ap (λ k. or_else k []) (durable_passes site.now addr.now media.now workers.now journal.now (rest_plain (codes "durable") words plain))
 
 -- and are found
 pub form_found : (form : Form) → All IsPlainWord (form_words form) → words_found (subcommand_of cta_app (form_words form)) ≡ Some (form_words form)
@@ -138,6 +154,9 @@ form_found (Serve site addr media workers) plain =
 form_found (Mill seed files workers) plain =
     let words : List Text = seed.now ∷ files.now ∷ workers.now ∷ [] in
     ap words_found (mill_found words) ∙ mill_reads seed.now files.now workers.now (rest_plain (codes "mill") words plain)
+form_found (Durable site addr media workers journal) plain =
+    let words : List Text = site.now ∷ addr.now ∷ media.now ∷ workers.now ∷ journal.now ∷ [] in
+    ap words_found (durable_found words) ∙ durable_reads site.now addr.now media.now workers.now journal.now (rest_plain (codes "durable") words plain)
 
 -- a text as a form holds it
 lent : Text → Bor Text
@@ -154,9 +173,12 @@ form_of_passing (word ∷ words) plain none = elim (first_word word) [
   | inl (inr (inl is)) ↦
       let rest = serve_only words (rest_plain word words plain) (none_first _ (sym (serve_fault words) ∙ (ap (λ w. fault_of cta_app (w ∷ words)) (sym is) ∙ none))) in
       (Serve (lent rest.0) (lent rest.1) (lent rest.2) (lent rest.3), ap₂ (λ w ws. w ∷ ws) is rest.4)
-  | inl (inr (inr is)) ↦
+  | inl (inr (inr (inl is))) ↦
       let rest = mill_only words (rest_plain word words plain) (none_first _ (sym (mill_fault words) ∙ (ap (λ w. fault_of cta_app (w ∷ words)) (sym is) ∙ none))) in
       (Mill (lent rest.0) (lent rest.1) (lent rest.2), ap₂ (λ w ws. w ∷ ws) is rest.3)
+  | inl (inr (inr (inr is))) ↦
+      let rest = durable_only words (rest_plain word words plain) (none_first _ (sym (durable_fault words) ∙ (ap (λ w. fault_of cta_app (w ∷ words)) (sym is) ∙ none))) in
+      (Durable (lent rest.0) (lent rest.1) (lent rest.2) (lent rest.3) (lent rest.4), ap₂ (λ w ws. w ∷ ws) is rest.5)
   | inr unnamed ↦
       let bad : UnknownArgument ∷ InvalidSubcommand ∷ [] ≡ [] = sym (stray_word word words (first_plain word words plain) unnamed) ∙ none in
       cc

@@ -1,16 +1,15 @@
 -- Numbers in decimal digits.
-use Rattle.std.proofs.Common.{◌≡◌, ◌<◌, ◌≤◌, ◌^◌, ℕ, zero, suc, List, [], ◌∷◌, length, get_or, Option, Some, None, Result, Ok, sym, ap, ◌∙◌, subst, refl, arith, codes}
+use Rattle.std.proofs.Common.{◌≡◌, ◌<◌, ◌^◌, ℕ, zero, suc, List, [], ◌∷◌, length, get_or, Result, Ok, sym, ap, ◌∙◌, subst, refl, arith}
 use Rattle.std.specs.Borrow.{Bor}
 use Rattle.std.specs.Fmt.{decimal}
 use Rattle.std.specs.Int.{IsInRange}
 use Rattle.std.specs.List.{All}
-use Rattle.std.specs.Str.{IsUtf8}
 use Rattle.std.specs.Str.Parse.{ParsesUnsigned, AllDigits, digits_value}
 use Rattle.std.proofs.lemmas.Fmt.{digits_decimal, decimal_injective, decimal_nonempty, first_decimal, decimal_digit, decimal-digits_value, parse-decimal}
 use Rattle.std.proofs.lemmas.List.Elements.{All-from_recursion}
 use Rattle.std.proofs.lemmas.Result.{OkIff-at_ok}
 use Rattle.std.proofs.lemmas.Str.Parse.{IsNumeralModel, numerals_by_value, tells_digits, not_in_digits, parse_plain}
-use Rattle.cta_words.specs.Numbers.{AreInRange, AreSpelled, ExplainsNoRun, IsBare, SpellsIn, SpellsRun, run_words}
+use Rattle.cta_words.specs.Numbers.{ExplainsNoRun, IsBare, SpellsIn, SpellsRun, run_words}
 use Rattle.cta_words.specs.Words.{Explains, IsPlainWord, Spells}
 use Rattle.cta_words.specs.declared.form.Form.{Form}
 use Rattle.cta_words.specs.declared.form.Form.TheVariants.{Mill}

@@ -3,3 +3,4 @@ pub mod Commands
 pub mod Found
 pub mod Numbers
 pub mod Serving
+pub mod Durable

@@ -2,7 +2,7 @@
 use Rattle.std.specs.Prelude.{◌≡◌, ◌≢◌, ⊤, ℕ, List, [], ◌∷◌, codes}
 use Rattle.std.specs.List.{All}
 use Rattle.cta_words.specs.declared.form.Form.{Form}
-use Rattle.cta_words.specs.declared.form.Form.TheVariants.{Replay, Serve, Mill}
+use Rattle.cta_words.specs.declared.form.Form.TheVariants.{Replay, Serve, Mill, Durable}
 use Rattle.cta_words.specs.declared.form.WordsError.{WordsError}
 use Rattle.cta_words.specs.declared.form.WordsError.TheVariants.{Usage, NoMemory}
 
@@ -17,6 +17,8 @@ form_words (Replay site) = codes "replay" ∷ site.now ∷ []
 form_words (Serve site addr media workers) =
     codes "serve" ∷ site.now ∷ addr.now ∷ media.now ∷ workers.now ∷ []
 form_words (Mill seed files workers) = codes "mill" ∷ seed.now ∷ files.now ∷ workers.now ∷ []
+form_words (Durable site addr media workers journal) =
+    codes "durable" ∷ site.now ∷ addr.now ∷ media.now ∷ workers.now ∷ journal.now ∷ []
 
 -- these are the words of the form, and each of them is plain
 abbrev pub Spells : List (List ℕ) → Form → Type 0

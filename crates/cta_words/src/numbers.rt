@@ -115,6 +115,7 @@ pub fn read_mill(alloc: Global, words: &[String]) -> Result<MillNumbers, WordsEr
         },
         Ok(Form::Replay { .. }) => Err(WordsError::Usage),
         Ok(Form::Serve { .. }) => Err(WordsError::Usage),
+        Ok(Form::Durable { .. }) => Err(WordsError::Usage),
         Err(error) => Err(error),
     }
 }

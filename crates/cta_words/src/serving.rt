@@ -45,6 +45,7 @@ pub fn read_serve<'a>(alloc: Global, words: &'a [String]) -> Result<ServeWords<'
         },
         Ok(Form::Replay { .. }) => Err(WordsError::Usage),
         Ok(Form::Mill { .. }) => Err(WordsError::Usage),
+        Ok(Form::Durable { .. }) => Err(WordsError::Usage),
         Err(error) => Err(error),
     }
 }

@@ -24,17 +24,15 @@ fn content(alloc: Global, bytes: &[u8]) -> Option<Arc<Blob>> {
     Arc::new(alloc, blob).ok()
 }
 
-// The medium of the first tape, by a new bench over a folder, and whether the folder held records of it.
-fn medium_at<R: Files>(
-    alloc: Global,
-    rt: &R,
-    folder: &str,
+// The medium of the first tape, by this bench, and whether the folder held records of it.
+fn medium_of<R: Files>(
+    mut bench: FileBench<'_, R>,
     site: &ValidSite,
 ) -> Option<(FileMedium, bool)> {
     if site.tapes().is_empty() {
+        drop(bench);
         return None;
     }
-    let mut bench = FileBench::new(alloc, rt, text(alloc, folder)?);
     let made = bench.medium(site, 0);
     let had = bench.had_records(0);
     drop(bench);
@@ -44,15 +42,28 @@ fn medium_at<R: Files>(
     }
 }
 
-fn new_medium<R: Files>(alloc: Global, rt: &R, folder: &str) -> Option<(FileMedium, bool)> {
+fn first_medium<R: Files>(alloc: Global, bench: FileBench<'_, R>) -> Option<(FileMedium, bool)> {
     match site_of(alloc) {
         Some(site) => {
-            let made = medium_at(alloc, rt, folder, &site);
+            let made = medium_of(bench, &site);
             drop(site);
             made
         }
-        None => None,
+        None => {
+            drop(bench);
+            None
+        }
     }
+}
+
+// By a bench that leaves alone what the folder holds.
+fn new_medium<R: Files>(alloc: Global, rt: &R, folder: &str) -> Option<(FileMedium, bool)> {
+    first_medium(alloc, FileBench::new(alloc, rt, text(alloc, folder)?))
+}
+
+// By a bench that goes on with what the folder holds.
+fn resumed_medium<R: Files>(alloc: Global, rt: &R, folder: &str) -> Option<(FileMedium, bool)> {
+    first_medium(alloc, FileBench::resuming(alloc, rt, text(alloc, folder)?))
 }
 
 fn new_drive<'r, R: Files>(alloc: Global, rt: &'r R, folder: &str) -> Option<Drive<'r, R>> {
@@ -126,7 +137,7 @@ fn sums<R: Files>(drive: &mut Drive<'_, R>, medium: &mut FileMedium) -> Result<S
 }
 
 // Makes a folder for a test, where it isn't there, and drops the files that an earlier run may have left.
-fn clear<R: Files>(rt: &R, folder: &str, files: [&str; 2]) {
+fn clear<R: Files>(rt: &R, folder: &str, files: &[&str]) {
     let _ = fs::create_dir(rt, folder);
     for file in files {
         let _ = fs::remove_file(rt, file);
@@ -169,7 +180,7 @@ fn records_are_read_back(rt: HostRuntime) -> Result<(), Fail> {
     clear(
         &rt,
         folder,
-        ["records-written/V1.1", "records-written/V1.2"],
+        &["records-written/V1.1", "records-written/V1.2"],
     );
     let (mut medium, _) = new_medium(alloc, &rt, folder).ok_or("no medium")?;
     let mut drive = new_drive(alloc, &rt, folder).ok_or("no drive")?;
@@ -206,8 +217,8 @@ fn missing_folder_is_a_fault(rt: HostRuntime) -> Result<(), Fail> {
     Ok(())
 }
 
-// The marks of a bench before its first medium, and after it.
-fn marks_of_bench<R: Files>(
+// Whether a bench tells of records before its first medium, whether it made that, and whether it tells of records then.
+fn told_of_bench<R: Files>(
     alloc: Global,
     rt: &R,
     folder: &str,
@@ -230,10 +241,10 @@ fn bench_lists_at_its_first_medium(rt: HostRuntime) -> Result<(), Fail> {
     clear(
         &rt,
         "records-none",
-        ["records-none/V1.1", "records-none/V1.2"],
+        &["records-none/V1.1", "records-none/V1.2"],
     );
     let site = site_of(alloc).ok_or("no site")?;
-    let told = marks_of_bench(alloc, &rt, "records-none", &site);
+    let told = told_of_bench(alloc, &rt, "records-none", &site);
     drop(site);
     assert_eq!(rt; told, Some([true, true, false]));
     Ok(())
@@ -248,7 +259,7 @@ fn cut<R: Files>(rt: &R, path: &str, len: u64) -> io::Result<()> {
 fn file_cut_short_is_read_as_it_is(rt: HostRuntime) -> Result<(), Fail> {
     let alloc = rt.alloc();
     let folder = "records-cut";
-    clear(&rt, folder, ["records-cut/V1.1", "records-cut/V1.1.part"]);
+    clear(&rt, folder, &["records-cut/V1.1", "records-cut/V1.1.part"]);
     let (mut medium, _) = new_medium(alloc, &rt, folder).ok_or("no medium")?;
     let mut drive = new_drive(alloc, &rt, folder).ok_or("no drive")?;
     let written = write_all(alloc, &mut drive, &mut medium, &[b"hello"]);
@@ -281,7 +292,7 @@ fn earlier_records_stay(rt: HostRuntime) -> Result<(), Fail> {
     clear(
         &rt,
         folder,
-        ["records-earlier/V1.1", "records-earlier/V1.1.part"],
+        &["records-earlier/V1.1", "records-earlier/V1.1.part"],
     );
     let (mut first, had) = new_medium(alloc, &rt, folder).ok_or("no medium")?;
     let mut drive = new_drive(alloc, &rt, folder).ok_or("no drive")?;
@@ -295,5 +306,71 @@ fn earlier_records_stay(rt: HostRuntime) -> Result<(), Fail> {
     assert!(rt; written == Ok(()) && !had && held);
     assert!(rt; [load, write] == [Err(DeviceErr::Fault); 2]);
     assert!(rt; holds_hello(&rt, "records-earlier/V1.1"));
+    Ok(())
+}
+
+// What reads give of a tape with two records, before and after a third one is written and then the second again. The third is read
+// in between.
+fn go_on<R: Files>(
+    alloc: Global,
+    drive: &mut Drive<'_, R>,
+    medium: &mut FileMedium,
+) -> Result<(Sums, Result<Sum256, DeviceErr>, Sums), DeviceErr> {
+    let before = sums(drive, medium)?;
+    drive.load(medium)?;
+    write_at(alloc, drive, medium, 3, b"third")?;
+    drive.flush(medium)?;
+    let third = sum_at(drive, medium, 3);
+    write_at(alloc, drive, medium, 2, b"other")?;
+    drive.flush(medium)?;
+    drive.unload(medium)?;
+    let after = sums(drive, medium)?;
+    Ok((before, third, after))
+}
+
+// Which of the files of a tape that was gone on with are there.
+fn resumed_files<R: Files>(rt: &R) -> [bool; 4] {
+    [
+        is_there(rt, "records-resumed/V1.1"),
+        is_there(rt, "records-resumed/V1.2"),
+        is_there(rt, "records-resumed/V1.3"),
+        is_there(rt, "records-resumed/V1.2.part"),
+    ]
+}
+
+// Writes two records by a new bench and a drive of its own.
+fn write_two<R: Files>(alloc: Global, rt: &R, folder: &str) -> Option<()> {
+    let (mut medium, _) = new_medium(alloc, rt, folder)?;
+    let mut drive = new_drive(alloc, rt, folder)?;
+    let written = write_all(alloc, &mut drive, &mut medium, &[b"hello", b"second"]);
+    drop(drive);
+    drop(medium);
+    written.ok()
+}
+
+#[test]
+fn resumed_tape_goes_on(rt: HostRuntime) -> Result<(), Fail> {
+    let alloc = rt.alloc();
+    let folder = "records-resumed";
+    clear(
+        &rt,
+        folder,
+        &[
+            "records-resumed/V1.1",
+            "records-resumed/V1.2",
+            "records-resumed/V1.3",
+        ],
+    );
+    write_two(alloc, &rt, folder).ok_or("not written")?;
+    let (mut medium, held) = resumed_medium(alloc, &rt, folder).ok_or("no medium")?;
+    let mut drive = new_drive(alloc, &rt, folder).ok_or("no drive")?;
+    let told = go_on(alloc, &mut drive, &mut medium);
+    drop(drive);
+    drop(medium);
+    let fault = Err(DeviceErr::Fault);
+    let before = [Ok(sum_of(b"hello")), Ok(sum_of(b"second")), fault];
+    let after = [Ok(sum_of(b"hello")), Ok(sum_of(b"other")), fault];
+    assert!(rt; held && told == Ok((before, Ok(sum_of(b"third")), after)));
+    assert!(rt; resumed_files(&rt) == [true, true, false, false]);
     Ok(())
 }

@@ -1,5 +1,5 @@
 -- One call of an archive that keeps a journal.
-use Rattle.std.proofs.Common.{◌≡◌, ℕ, ◌≤◌, List, ◌∷◌, ◌++◌, Bool, true, false, not, refl, sym, ap, subst}
+use Rattle.std.proofs.Common.{arith, ◌≡◌, ℕ, ◌≤◌, List, ◌∷◌, ◌++◌, Bool, true, false, not, refl, sym, ap, subst}
 use Rattle.std.specs.Prelude.{Option, Some, None, Ok, Err, if◌then◌else◌}
 use Rattle.blob.specs.Records.{MediumView}
 use Rattle.cta_site.specs.declared.site.Site.{Site}
@@ -19,10 +19,16 @@ use Rattle.archive_turns.specs.declared.calls.ArchiveBack.{ArchiveBack}
 use Rattle.archive_turns.specs.declared.calls.ArchiveBack.TheVariants as archives
 use Rattle.archive_turns.specs.Plays.{Returns, kept_with}
 use Rattle.durable_archive.specs.declared.back.CloseCause.{CloseCause}
-use Rattle.durable_archive.specs.Journaled.{IsLogged, StandsForHistory, sure_of}
-use Rattle.durable_archive.specs.Records.{AreRecordsOf, KeepsBetween, MayHaveNext, StandsForNext, all_but_last}
+use Rattle.durable_archive.specs.declared.back.CloseCause.TheVariants as cause
+use Rattle.durable_archive.specs.Journaled.{IsCauseOf, IsLogged, StandsForHistory, sure_of}
+use Rattle.durable_archive.specs.Records.{AreRecordsOf, KeepsBetween, KeepsHistory, MayHaveNext, StandsForNext, all_but_last}
 use Rattle.durable_archive.specs.Turns.{back_adds}
-use Rattle.durable_archive.proofs.Leaving.{keeps_here, keeps_same, next_keeps, next_stands}
+use Rattle.durable_archive.proofs.Leaving.{keeps_here, keeps_same, keeps_told, next_keeps, next_stands}
+
+-- a cause of some append holds since the count stood no higher
+pub cause_since : (first before behind : ℕ) (why : CloseCause) → first ≤ before → IsCauseOf why before behind → IsCauseOf why first behind
+cause_since first before behind (cause.Disk faults) le is = (omega (arith, le, is.0), is.1)
+cause_since first before behind cause.Memory le is = tt
 
 pub was_false : (b : Bool) → not b ≡ true → b ≡ false
 was_false true is_so = absurd (cc)
@@ -73,6 +79,12 @@ module _ {K : Type 0} (content : K → Option (List ℕ)) (may_leave : K → Lis
       → (file : List ℕ) → may_leave (disk_of journal) file → KeepsBetween site begun (sure_of closed h) h file
   rests h journal None first kept begun s file left = keeps_same site begun h file (keeps_here content may_leave journal site begun h (kept.1 begun s) file left)
   rests h journal (Some why) first kept begun s file left = kept begun s file left
+
+  -- what a read gives of an open journal's disk
+  pub stands_told : (h : History) (journal : Journal K) (closed : Option CloseCause) (first : Journal K) → IsLogged content may_leave site h journal closed first → closed ≡ None → (begun : List (List ℕ)) → StandsFor content may_leave first begun
+      → (file : List ℕ) × (content (disk_of journal) ≡ Some file) × KeepsHistory site begun h file
+  stands_told h journal None first kept is_open begun s = keeps_told content may_leave journal site begun h (kept.1 begun s)
+  stands_told h journal (Some why) first kept is_open begun s = absurd (cc)
 
   module _ (moment : K → ℕ) (left_since : K → ℕ → List ℕ → Type 0) (only_now : (disk : K) (c : List ℕ) → left_since disk (moment disk) c → may_leave disk c) where
     -- no call of the disk was made

@@ -1,11 +1,11 @@
 -- What a crash leaves of a journal.
 use Rattle.std.proofs.Common.{◌≡◌, ℕ, inl, inr, List, [], ◌∷◌, ◌++◌, refl, subst, append_assoc}
-use Rattle.std.specs.Prelude.{Option}
+use Rattle.std.specs.Prelude.{Option, Some}
 use Rattle.cta_site.specs.declared.site.Site.{Site}
 use Rattle.cta_model.specs.declared.entries.Entry.{Entry}
 use Rattle.cta_model.specs.History.{History}
 use Rattle.cta_journal.specs.declared.journal.Journal.{Journal}
-use Rattle.cta_journal.specs.Log.{HasLog}
+use Rattle.cta_journal.specs.Log.{HasLog, records}
 use Rattle.cta_journal.specs.Standing.{StandsFor, disk_of}
 use Rattle.cta_journal.proofs.Records.{ends}
 use Rattle.durable_archive.specs.Journaled.{StandsForHistory}
@@ -24,6 +24,12 @@ module _ {K : Type 0} (content : K → Option (List ℕ)) (may_leave : K → Lis
   next_stands journal site begun more later s =
       let is : (begun ++ more) ++ s.0 ∷ [] ≡ begun ++ (more ++ s.0 ∷ []) = append_assoc begun more (s.0 ∷ []) in
       (more ++ s.0 ∷ [], subst (AreRecordsOf site later) is s.1, subst (StandsFor content may_leave journal) is s.2)
+
+  -- what a read gives of a journal that stands for a history
+  pub keeps_told : (journal : Journal K) (site : Site) (begun : List (List ℕ)) (h : History) → StandsForHistory content may_leave journal site begun h → (file : List ℕ) × (content (disk_of journal) ≡ Some file) × KeepsHistory site begun h file
+  keeps_told journal site begun h s =
+      let file = records (begun ++ s.0) ++ s.2.gate ∷ [] in
+      (file, s.2.told, (s.0, s.1, ends (begun ++ s.0) file [] s.2.gate s.2.shut refl))
 
 pub now : (h : History) → IsOlder h h
 now h = ([], refl)

@@ -1,11 +1,13 @@
 -- An archive and its journal.
-use Rattle.std.specs.Prelude.{◌≡◌, ℕ, List, ◌++◌, Option, Some, None, true}
+use Rattle.std.specs.Prelude.{◌≡◌, ◌≤◌, ⊤, ℕ, List, ◌++◌, Option, Some, None, true}
+use Rattle.outside.specs.Causes.{Rose}
 use Rattle.cta_site.specs.declared.site.Site.{Site}
 use Rattle.cta_model.specs.History.{History}
 use Rattle.cta_model.specs.Kept.{Kept}
 use Rattle.cta_journal.specs.declared.journal.Journal.{Journal}
 use Rattle.cta_journal.specs.Standing.{StandsFor, disk_of, is_open_of}
 use Rattle.durable_archive.specs.declared.back.CloseCause.{CloseCause}
+use Rattle.durable_archive.specs.declared.back.CloseCause.TheVariants as cause
 use Rattle.durable_archive.specs.Records.{AreRecordsOf, KeepsBetween, all_but_last}
 
 -- an archive, its journal, why the journal is closed if it is, and the journal as it was when they came together
@@ -14,6 +16,16 @@ pub record LoggedView (K : Type 0) : Type 0 where
   pub journal : Journal K
   pub closed : Option CloseCause
   pub first : Journal K
+
+-- why an append failed, where the disk had failed so often before it and behind it
+abbrev pub IsCauseOf : CloseCause → ℕ → ℕ → Type 0
+IsCauseOf (cause.Disk faults) before behind = Rose before behind × (faults ≡ behind)
+IsCauseOf cause.Memory before behind = ⊤
+
+-- how often the disk has failed, where it had so often at first: no less often then, and where the journal is closed, as its cause says
+abbrev pub IsCountedFrom : ℕ → Option CloseCause → ℕ → Type 0
+IsCountedFrom first None now = first ≤ now
+IsCountedFrom first (Some why) now = IsCauseOf why first now
 
 module _ {K : Type 0} (content : K → Option (List ℕ)) (may_leave : K → List ℕ → Type 0) where
   -- the log that a journal stands for, if its disk tells one, is that of this history

@@ -1,7 +1,6 @@
 -- What comes back from a call of an archive that keeps a journal, and what is kept then.
-use Rattle.std.specs.Prelude.{ℕ, ◌≡◌, ⊤, List, Bool, true, false, reverse, Option, Some, None, Ok}
+use Rattle.std.specs.Prelude.{ℕ, ◌≡◌, List, Bool, true, false, reverse, Option, Some, None, Ok}
 use Rattle.blob.specs.Records.{MediumView}
-use Rattle.outside.specs.Causes.{Rose}
 use Rattle.cta_site.specs.declared.site.Site.{Site}
 use Rattle.cta_model.specs.declared.answers.Answer.{Answer}
 use Rattle.cta_model.specs.declared.entries.Entry.{Entry}
@@ -18,10 +17,9 @@ use Rattle.archive_turns.specs.declared.calls.ArchiveBack.TheVariants as archive
 use Rattle.archive_turns.specs.Fits.{CanPlay}
 use Rattle.archive_turns.specs.Plays.{Returns, call_adds, kept_with}
 use Rattle.durable_archive.specs.declared.back.CloseCause.{CloseCause}
-use Rattle.durable_archive.specs.declared.back.CloseCause.TheVariants as cause
 use Rattle.durable_archive.specs.declared.back.LoggedBack.{LoggedBack}
 use Rattle.durable_archive.specs.declared.back.LoggedBack.TheVariants as back
-use Rattle.durable_archive.specs.Journaled.{LoggedView}
+use Rattle.durable_archive.specs.Journaled.{IsCauseOf, LoggedView}
 
 -- the hand that goes in with a call, Nothing with a look
 abbrev pub hand_of_call : {M : Type 0} → ArchiveCall M → Hand M
@@ -37,11 +35,6 @@ back_adds _ = false
 abbrev pub logged_adds : {M : Type 0} → ArchiveCall M → LoggedBack M → Bool
 logged_adds c (back.Answered b) = call_adds c b
 logged_adds c (back.Closed why out added) = added.value
-
--- why an append failed, where the disk had failed so often before it and behind it
-abbrev pub IsCauseOf : CloseCause → ℕ → ℕ → Type 0
-IsCauseOf (cause.Disk faults) before behind = Rose before behind × (faults ≡ behind)
-IsCauseOf cause.Memory before behind = ⊤
 
 module _ {M : Type 0} (told : M → MediumView) where
   -- a call that is answered Closed: where its append failed, the archive had accepted it and given this hand, and its entry is in the history; else nothing changes, and it

@@ -1,13 +1,13 @@
 // The last entry of a history goes into the journal.
-ghost use Rattle.std.specs.Prelude.{◌≡◌, ◌∷◌, ◌++◌, [], List, ℕ, OnOk, IsErrOf, true};
+ghost use Rattle.std.specs.Prelude.{◌≡◌, ◌∷◌, ◌++◌, ◌≤◌, [], List, ℕ, OnOk, IsErrOf, true};
 ghost use Rattle.cta_journal.specs.Disk.{LeavesOnly};
 ghost use Rattle.cta_journal.specs.Standing.{StandsFor, disk_of, is_open_of};
 ghost use Rattle.cta_model.specs.declared.entries.Entry.{Entry};
 ghost use Rattle.cta_model.specs.History.{History};
 ghost use Rattle.cta_records.specs.Records.{KeptFits, body_of};
 ghost use Rattle.durable_archive.specs.declared.back.CloseCause.{CloseCause};
+ghost use Rattle.durable_archive.specs.Journaled.{IsCauseOf};
 ghost use Rattle.durable_archive.specs.Records.{AreRecordsOf, MayHaveMore, MayHaveNext, StandsForNext};
-ghost use Rattle.durable_archive.specs.Turns.{IsCauseOf};
 
 use crate::back::CloseCause;
 use crate::last::last_kept;
@@ -24,6 +24,7 @@ fn append_kept<K: Disk>(journal: &mut Journal<K>, kept: &Kept) -> Result<(), Clo
     ensures fits { OnOk result (KeptFits kept.now) }
     ensures stored { (bodies : List (List ℕ)) → StandsFor K.content K.may_leave journal.old bodies → OnOk result (StandsFor K.content K.may_leave journal.new (bodies ++ body_of kept.now ∷ [])) }
     ensures cause { (why : CloseCause) → IsErrOf result why → IsCauseOf why (K.fault_count (disk_of journal.old)) (K.fault_count (disk_of journal.new)) }
+    ensures later { K.fault_count (disk_of journal.old) ≤ K.fault_count (disk_of journal.new) }
     ensures any_moment { (bodies : List (List ℕ)) → StandsFor K.content K.may_leave journal.old bodies
         → LeavesOnly K.moment K.left_since (disk_of journal.old) (disk_of journal.new) (MayHaveMore bodies kept.now) }
 {
@@ -48,6 +49,7 @@ pub(crate) fn keep_last<M: Told + Drop, K: Disk>(
     ensures stored { (e : Entry) (h : History) (bodies : List (List ℕ)) → archive.now.history ≡ e ∷ h → AreRecordsOf archive.now.site h bodies → StandsFor K.content K.may_leave journal.old bodies
         → OnOk result (StandsForNext K.content K.may_leave journal.new archive.now.site archive.now.history bodies) }
     ensures cause { (why : CloseCause) → IsErrOf result why → IsCauseOf why (K.fault_count (disk_of journal.old)) (K.fault_count (disk_of journal.new)) }
+    ensures later { K.fault_count (disk_of journal.old) ≤ K.fault_count (disk_of journal.new) }
     ensures any_moment { (e : Entry) (h : History) (bodies : List (List ℕ)) → archive.now.history ≡ e ∷ h → AreRecordsOf archive.now.site h bodies → StandsFor K.content K.may_leave journal.old bodies
         → LeavesOnly K.moment K.left_since (disk_of journal.old) (disk_of journal.new) (MayHaveNext archive.now.site archive.now.history bodies) }
 {

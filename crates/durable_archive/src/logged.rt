@@ -1,5 +1,5 @@
 // An archive that keeps a journal of its history.
-ghost use Rattle.std.specs.Prelude.{◌≡◌, List, ℕ, None, true};
+ghost use Rattle.std.specs.Prelude.{◌≡◌, List, ℕ, None, Some, true};
 ghost use Rattle.cta_journal.specs.Disk.{LeavesOnly};
 ghost use Rattle.cta_journal.specs.Standing.{StandsFor, disk_of, is_open_of};
 ghost use Rattle.archive_turns.specs.Fits.{CanPlay};
@@ -29,18 +29,20 @@ pub struct Logged<M: Told + Drop, K: Disk> {
 }
 
 impl<M: Told + Drop, K: Disk> Model for Logged<M, K> {
-    ghost use Rattle.durable_archive.specs.Journaled.{LoggedView, IsLogged};
+    ghost use Rattle.cta_journal.specs.Standing.{disk_of};
+    ghost use Rattle.durable_archive.specs.Journaled.{IsCountedFrom, IsLogged, LoggedView};
 
     ghost Value = { LoggedView K };
 
     ghost view = { λ l. record { archive = l.archive; journal = l.journal; closed = l.closed; first = l.first.value } };
 
-    ghost invariant = { λ l. IsLogged K.content K.may_leave l.archive.site l.archive.history l.journal l.closed l.first.value };
+    ghost invariant = { λ l. IsLogged K.content K.may_leave l.archive.site l.archive.history l.journal l.closed l.first.value
+        × IsCountedFrom (K.fault_count (disk_of l.first.value)) l.closed (K.fault_count (disk_of l.journal)) };
 }
 
 impl<M: Told + Drop, K: Disk> Logged<M, K> {
-    ghost use Rattle.durable_archive.specs.Journaled.{LogIsHistory, sure_of};
-    ghost use Rattle.durable_archive.specs.Records.{KeepsBetween};
+    ghost use Rattle.durable_archive.specs.Journaled.{IsCountedFrom, LogIsHistory, sure_of};
+    ghost use Rattle.durable_archive.specs.Records.{KeepsBetween, KeepsHistory};
     ghost use Rattle.durable_archive.specs.Turns.{LoggedKeeps, MovesBy};
 
     /// An archive with the open journal of its history. It takes no memory and constant time.
@@ -59,9 +61,11 @@ impl<M: Told + Drop, K: Disk> Logged<M, K> {
         }
     }
 
-    /// Why the journal is closed, None as long as it is open. In constant time.
+    /// Why the journal is closed, None as long as it is open. The cause holds of the disk's count of failures since the journal was as at
+    /// first. In constant time.
     pub fn closed(&self) -> Option<CloseCause>
-        ensures { result ≡ self.now.closed }
+        ensures is { result ≡ self.now.closed }
+        ensures counted { IsCountedFrom (K.fault_count (disk_of self.now.first)) result (K.fault_count (disk_of self.now.journal)) }
     {
         self.closed
     }
@@ -82,9 +86,11 @@ impl<M: Told + Drop, K: Disk> Logged<M, K> {
         let _journal = &self.journal;
     }
 
-    /// The journal's disk. The archive is dropped. It takes no memory.
+    /// The journal's disk. The archive is dropped. It takes no memory. Where the journal is open, and the disk told a log at first, the
+    /// disk's content has the records of the history, which begin with that log.
     pub fn end(self) -> K
-        ensures { result ≡ disk_of self.journal }
+        ensures disk { result ≡ disk_of self.journal }
+        ensures log { self.closed ≡ None → (begun : List (List ℕ)) → StandsFor K.content K.may_leave self.first begun → (file : List ℕ) × (K.content result ≡ Some file) × KeepsHistory self.archive.site begun self.archive.history file }
     {
         let Logged {
             alloc: _,

@@ -2,7 +2,7 @@ use cta_words::{Form, WordsError, read_words};
 use std::alloc::{AllocError, Global};
 
 // Words of none of the forms.
-const NO_FORMS: [&str; 17] = [
+const NO_FORMS: [&str; 19] = [
     "",
     "replay",
     "replay a b",
@@ -19,6 +19,8 @@ const NO_FORMS: [&str; 17] = [
     "serve a b c d e",
     "mill 1 2",
     "mill 1 2 3 4",
+    "durable a b c d",
+    "durable a b c d e f",
     "Replay a",
 ];
 
@@ -43,7 +45,7 @@ fn is_read_as(alloc: Global, line: &str, want: Result<Form, WordsError>) -> bool
 fn reads_each_form(rt: HostRuntime) {
     let alloc = rt.alloc();
     let site = "site.toml";
-    let (addr, media, workers) = ("127.0.0.1:80", "media", "4");
+    let (addr, media, workers, journal) = ("127.0.0.1:8443", "media", "4", "journal");
     let serve = Form::Serve {
         site,
         addr,
@@ -56,12 +58,24 @@ fn reads_each_form(rt: HostRuntime) {
         files,
         workers,
     };
+    let durable = Form::Durable {
+        site,
+        addr,
+        media,
+        workers,
+        journal,
+    };
     let help = Form::Replay { site: "help" };
     let is_replay = is_read_as(alloc, "replay site.toml", Ok(Form::Replay { site }));
     let is_help = is_read_as(alloc, "replay help", Ok(help));
-    let is_serve = is_read_as(alloc, "serve site.toml 127.0.0.1:80 media 4", Ok(serve));
+    let is_serve = is_read_as(alloc, "serve site.toml 127.0.0.1:8443 media 4", Ok(serve));
     let is_mill = is_read_as(alloc, "mill 7 1000 4", Ok(mill));
-    assert_eq!(rt; [is_replay, is_help, is_serve, is_mill], [true; 4]);
+    let line = "durable site.toml 127.0.0.1:8443 media 4 journal";
+    let is_durable = is_read_as(alloc, line, Ok(durable));
+    assert_eq!(rt;
+        [is_replay, is_help, is_serve, is_mill, is_durable],
+        [true; 5]
+    );
 }
 
 // The first of the words of no form that are read otherwise.

@@ -2,4 +2,4 @@ pub mod Numbers
 pub mod Dots
 pub mod Writes
 pub mod Untold
-pub mod Marks
+pub mod Noted

@@ -27,7 +27,7 @@ pub record WritesRecord (vid : List ℕ) (s n : ℕ) (bytes : List ℕ) (old new
   pub own : AllByRecursion (IsOfWrite vid s n) calls
   pub whole : ok ≡ true → calls ≡ whole_write vid s n bytes
 
--- a load of a tape with earlier records fails and does nothing; any other looks whether the folder is there
+-- a load of a foreign medium fails and does nothing; any other looks whether the folder is there
 abbrev pub LoadsMedium : Bool → Option (List DiskCall) → Option (List DiskCall) → Bool → Type 0
 LoadsMedium true old new ok = (new ≡ old) × (ok ≡ false)
 LoadsMedium false old new ok = new ≡ after_call (Opened ok) old

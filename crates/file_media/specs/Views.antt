@@ -35,11 +35,11 @@ file_medium m = record { label = m.tape; records = None }
 abbrev pub medium_vid : FileMedium → List ℕ
 medium_vid m = m.vid
 
--- whether the folder held records of the tape at the start
+-- whether each load is a Fault, since the folder may hold records of earlier processes that the bench doesn't go on with
 abbrev pub is_foreign : FileMedium → Bool
 is_foreign m = m.foreign
 
--- the last fSeq at which this process may have a file of the tape, 0 where none
+-- the last fSeq at which there may be a file of the tape that a write drops, of this process or of those that it goes on with, 0 where none
 abbrev pub last_written : FileMedium → ℕ
 last_written m = m.written
 
@@ -50,6 +50,10 @@ last_safe m = m.safe
 -- the last fSeq of a record, safe or pending, 0 where none
 abbrev pub last_record : FileMedium → ℕ
 last_record m = m.records
+
+-- a medium begins with the records up to the fSeq n, all of them safe, and with no file behind them
+abbrev pub BeginsAt : ℕ → FileMedium → Type 0
+BeginsAt n m = (last_written m ≡ n) × (last_record m ≡ n) × (last_safe m ≡ n)
 
 -- what a write at the fSeq s leaves of the places: that record is the last one, and a safe one before it stays safe; after a fault there are no more than before
 abbrev pub IsWrittenAt : ℕ → FileMedium → FileMedium → Bool → Type 0

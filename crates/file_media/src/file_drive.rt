@@ -22,8 +22,8 @@ use std::sync::Arc;
 /// A drive that keeps each record in a file of its disk. It tells no plan, and promises nothing of what files give. A write
 /// makes its content durable under the name of no record, and then gives it the record's; a flush makes the names durable, and is
 /// Ok only where no write and no sync has failed since the load. So what was flushed outlasts the machine. It drops and replaces
-/// only records that its own process wrote: a tape of which the folder held records before is never loaded. Only a read
-/// takes memory, for the content.
+/// only records that its own process wrote, or with which its bench goes on: of a bench made by `FileBench::new`, a tape of which
+/// the folder held records before is never loaded. Only a read takes memory, for the content.
 #[derive(Drop)]
 pub struct FileDrive<D> {
     disk: D,
@@ -55,7 +55,7 @@ impl<D: Disk> TapeDrive for FileDrive<D> {
 
     ghost seen = { λ d. file_view d };
 
-    /// Looks whether the folder is there. A tape of which the folder held records at the start is a Fault at each load.
+    /// Looks whether the folder is there. A foreign medium, which the bench says not to load, is a Fault at each load.
     fn load(&mut self, medium: &mut FileMedium) -> Result<(), DeviceErr>
         ensures drive { HasAnswered kind.Load (file_view self.old) (file_view self.new) (error_of result) }
         ensures records { file_medium medium.new ≡ file_medium medium.old }
@@ -72,8 +72,8 @@ impl<D: Disk> TapeDrive for FileDrive<D> {
         Ok(())
     }
 
-    /// Drops the files of this process from `fseq` on, and writes the record. It wants no memory. An fSeq of 0, or behind one
-    /// more than the records, is a Fault.
+    /// Drops the tape's files from `fseq` on, as far as the medium knows of some, and writes the record. It wants no memory. An fSeq
+    /// of 0, or behind one more than the records, is a Fault.
     #[tactic(auto, using(crate::proofs::Untold::none_written))]
     fn write(
         &mut self,

@@ -5,14 +5,15 @@ use crate::disk::FileName;
 use blob::Told;
 use cta_site::Text;
 
-/// A medium whose records are files of a folder, labelled with the number of its tape. It tells no records. It knows how far
-/// its own process wrote it, and whether the folder held records of the tape before.
+/// A medium whose records are files of a folder, labelled with the number of its tape. It tells no records. It knows how far it was
+/// written, by its own process or before it by those whose records its bench goes on with, and whether a drive may load it.
 #[derive(Drop)]
 pub struct FileMedium {
     pub(crate) tape: u32,
     pub(crate) vid: Text,
+    // Whether each load is a Fault, since the folder may hold records of earlier processes that the bench doesn't go on with.
     pub(crate) foreign: bool,
-    // The last fSeq at which there may be a file of this process, 0 where there is none.
+    // The last fSeq at which there may be a file that a write drops, 0 where there is none.
     pub(crate) written: u32,
     // The last fSeq of a record, 0 where there is none. Files behind it are of records that an unload has dropped.
     pub(crate) records: u32,
@@ -28,22 +29,22 @@ impl Told for FileMedium {
 
 impl FileMedium {
     ghost use Rattle.file_media.specs.Names.{record_name, part_name, file_text};
-    ghost use Rattle.file_media.specs.Views.{file_medium, medium_vid, is_foreign, last_record, last_written, last_safe};
+    ghost use Rattle.file_media.specs.Views.{BeginsAt, file_medium, medium_vid, is_foreign};
 
-    // The medium of a tape of which this process wrote nothing.
-    pub(crate) fn new(tape: u32, vid: Text, foreign: bool) -> FileMedium
+    // The medium of a tape of which this process wrote nothing, with the records up to an fSeq.
+    pub(crate) fn new(tape: u32, vid: Text, foreign: bool, last: u32) -> FileMedium
         ensures label { (file_medium result).label ≡ tape }
         ensures vid { medium_vid result ≡ vid }
         ensures foreign { is_foreign result ≡ foreign }
-        ensures nothing { (last_written result ≡ 0) × (last_record result ≡ 0) × (last_safe result ≡ 0) }
+        ensures places { BeginsAt last result }
     {
         FileMedium {
             tape,
             vid,
             foreign,
-            written: 0,
-            records: 0,
-            safe: 0,
+            written: last,
+            records: last,
+            safe: last,
         }
     }
 

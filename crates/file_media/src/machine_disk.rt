@@ -170,6 +170,8 @@ impl<'r, R: Files> Disk for MachineDisk<'r, R> {
         told(fs::rename(self.rt, self.path.as_str(), self.other.as_str()))
     }
 
+    /// A file that isn't there counts as dropped: after a power cut a folder may lack one in the middle, and a write drops those
+    /// behind it too.
     fn remove(&mut self, name: FileName<'_>) -> Result<(), DiskFault> {
         set_path(&mut self.path, self.folder.as_str(), name)?;
         if is_gone(fs::remove_file(self.rt, self.path.as_str())) {

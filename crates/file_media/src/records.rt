@@ -7,7 +7,7 @@ use crate::disk::{Disk, DiskFault};
 use crate::file_medium::FileMedium;
 use blob::Blob;
 
-// Drops the records of this process from an fSeq on, the last one first.
+// Drops the records that the medium knows of from an fSeq on, the last one first.
 fn cut<D: Disk>(disk: &mut D, medium: &mut FileMedium, fseq: u32) -> Result<(), DiskFault>
     requires from { 1 ≤ fseq }
     requires to { fseq ≤ medium.old.written + 1 }
@@ -35,7 +35,7 @@ fn put_whole<D: Disk>(
     disk.rename(medium.part(fseq), medium.record(fseq))
 }
 
-// Writes a record at an fSeq, from 1 to one more than the records, and drops the files of this process from there on.
+// Writes a record at an fSeq, from 1 to one more than the records, and drops the files that the medium knows of from there on.
 pub(crate) fn write_record<D: Disk>(
     disk: &mut D,
     medium: &mut FileMedium,

@@ -3,7 +3,7 @@ use Rattle.std.proofs.Common.{◌≡◌, ℕ, ◌+◌, ◌≤◌, inl, inr, List
 use Rattle.std.proofs.lemmas.List.Concat.{flat_map-append}
 use Rattle.cta_site.specs.declared.site.Site.{Site}
 use Rattle.archive_opening.specs.declared.status.Status.{Status}
-use Rattle.archive_opening.specs.declared.status.Status.TheVariants.{Ok, Usage, Site as SiteRule, Script, ReadFault, WriteFault, NoMemory, TooLong, ListenFault}
+use Rattle.archive_opening.specs.declared.status.Status.TheVariants.{Ok, Script, ReadFault, WriteFault, NoMemory, TooLong}
 use Rattle.replay.specs.Steps.{RunState}
 use Rattle.replay.specs.Seen.{World}
 use Rattle.replay.specs.Script.{Record, ScriptCut, whole_bytes, spelling}
@@ -43,11 +43,9 @@ module _ (n k : RunState) (records : List Record) (happened more : List Happenin
 
   pub EndsScript-behind : (status : Status) → EndsScript status k m b c more → EndsScript status n a b (behind records c) (happened ++ more)
   EndsScript-behind Ok p = (p.0, Wrote-behind p.1)
-  EndsScript-behind Usage p = p
-  EndsScript-behind (SiteRule rule item) p = p
   EndsScript-behind (Script offset) p = (fault_behind offset p.0, Wrote-behind p.1)
   EndsScript-behind ReadFault p = let le = h.read_later in (p.0, omega (arith, p.1), p.2, Wrote-behind p.3)
   EndsScript-behind WriteFault p = let le = h.write_later in (p.0, omega (arith, p.1), front_behind n k a.out m.out b.out happened more h.keeps h.wrote p.2)
   EndsScript-behind NoMemory p = (p.0, first_behind n k a.out m.out b.out happened more h.keeps h.wrote p.1)
   EndsScript-behind TooLong p = (p.0, p.1, Wrote-behind p.2)
-  EndsScript-behind ListenFault p = p
+  EndsScript-behind _ p = absurd p

@@ -8,7 +8,7 @@ use Rattle.cta_site.specs.WellFormed.{IsWellFormed}
 use Rattle.links.specs.Run.{IsRun}
 use Rattle.archive_opening.specs.Seen.{SourceView}
 use Rattle.archive_opening.specs.declared.status.Status.{Status}
-use Rattle.archive_opening.specs.declared.status.Status.TheVariants.{Ok, Usage, Site as SiteRule, Script, ReadFault, WriteFault, NoMemory, TooLong, ListenFault}
+use Rattle.archive_opening.specs.declared.status.Status.TheVariants.{Ok, Script, ReadFault, WriteFault, NoMemory, TooLong}
 use Rattle.replay.specs.Seen.{SinkView, World, world, unread}
 use Rattle.replay.specs.Script.{Record, ScriptCut, ScriptTail, Ended, MayGoOn, IsRefusedAt, ended, whole_bytes, tail_bytes, tail_records, cut_bytes, cut_records, InLine, InBytes, BadLine, LongLine, NoLf}
 use Rattle.replay.specs.Run.{ScriptTurn, record_of, links_turns, all_happenings}
@@ -87,8 +87,6 @@ module _ (tells : Bool) (site : Site) (valid : IsWellFormed site) (made : Made) 
       → map record_of turns ≡ cut_records c → IsRun site.limits.file (links_turns turns) → KeepsPromises tells site made turns → EndsScript status (begun_with site made) a b c (all_happenings turns)
       → (Rose from.faults to.faults → ⊥) → (Rose p.faults q.faults → ⊥) → ((status ≡ Ok) × IsWhole) ⊎ (status ≡ NoMemory)
   by_status Ok c turns s t took brought run kept e no_read no_write = inl (refl, at_end c turns t s e.0 brought run e.1 kept)
-  by_status Usage c turns s t took brought run kept e no_read no_write = absurd e
-  by_status (SiteRule rule item) c turns s t took brought run kept e no_read no_write = absurd e
   by_status (Script offset) c turns (inl p) t took brought run kept (inl r, w) no_read no_write = absurd (ended_not_refused c.tail r.0 p.1 r.1)
   by_status (Script offset) c turns (inr p) t took brought run kept (inl r, w) no_read no_write = absurd (open_not_refused c.tail r.0 p.0 r.1)
   by_status (Script offset) c turns s t took brought run kept (inr o, w) no_read no_write = absurd ((open_goes_on c s o.0 t took).0 o.1)
@@ -96,7 +94,7 @@ module _ (tells : Bool) (site : Site) (valid : IsWellFormed site) (made : Made) 
   by_status WriteFault c turns s t took brought run kept e no_read no_write = absurd (no_write e.1)
   by_status NoMemory c turns s t took brought run kept e no_read no_write = inr refl
   by_status TooLong c turns s t took brought run kept e no_read no_write = let n = (open_goes_on c s e.0 t took).1 in absurd (omega (arith, e.1))
-  by_status ListenFault c turns s t took brought run kept e no_read no_write = absurd e
+  by_status _ c turns s t took brought run kept e no_read no_write = absurd e
 
   completes : (status : Status) (f : Finishes (begun_with site made) [] a b status) → KeepsPromises tells site made f.turns → (Rose from.faults to.faults → ⊥) → (Rose p.faults q.faults → ⊥)
       → ((status ≡ Ok) × IsWhole) ⊎ (status ≡ NoMemory)

@@ -8,7 +8,7 @@ use Rattle.cta_site.specs.declared.site.Site.{Site}
 use Rattle.archive_opening.specs.Seen.{SourceView}
 use Rattle.archive_opening.specs.SiteFile.{IsSiteOf, NoSite, site_fault}
 use Rattle.archive_opening.specs.declared.status.Status.{Status}
-use Rattle.archive_opening.specs.declared.status.Status.TheVariants.{Ok, Usage, Site as SiteRule, Script, ReadFault, WriteFault, NoMemory, TooLong, ListenFault}
+use Rattle.archive_opening.specs.declared.status.Status.TheVariants.{Ok, Site as SiteRule, ReadFault, NoMemory}
 use Rattle.archive_opening.proofs.Sites.{not_long, one_site}
 use Rattle.replay.specs.Outcome.{IsReadWhole, ReachesEnd}
 use Rattle.replay.specs.Top.{Handed, Runs, RunsWhole}
@@ -23,8 +23,6 @@ taken_site site bytes (Some xs) (Some ys) e t =
     (omega (arith, ap length t, ap length same, length-append bytes ys), λ at. sym (append-nil bytes) ∙ ap (λ l. bytes ++ l) (sym at) ∙ sym t ∙ same)
 
 by_site : (status : Status) (file : List ℕ) (a b : SourceView) → a.left ≡ Some file → site_fault file ≡ None → (Rose a.faults b.faults → ⊥) → NoSite status a b → status ≡ NoMemory
-by_site Ok file a b e kept calm h = absurd h
-by_site Usage file a b e kept calm h = absurd h
 by_site (SiteRule rule item) file a b e kept calm (bytes, t, inl long, broken) =
     let s = taken_site file bytes a.left b.left e t in
     let fits = not_long file kept in
@@ -33,12 +31,9 @@ by_site (SiteRule rule item) file a b e kept calm (bytes, t, inr end, broken) =
     let s = taken_site file bytes a.left b.left e t in
     let same : site_fault bytes ≡ site_fault file = ap site_fault (s.1 end.0) in
     absurd (cc)
-by_site (Script offset) file a b e kept calm h = absurd h
 by_site ReadFault file a b e kept calm h = absurd (calm h.3)
-by_site WriteFault file a b e kept calm h = absurd h
 by_site NoMemory file a b e kept calm h = refl
-by_site TooLong file a b e kept calm h = absurd h
-by_site ListenFault file a b e kept calm h = absurd h
+by_site _ file a b e kept calm h = absurd h
 
 pub RunsWhole-from_runs : ((file a b : Site) → first_fault file ≡ None → IsNumberedFrom file a → IsNumberedFrom file b → a ≡ b) → (tells : Bool) (status : Status) (words : List (List ℕ)) (a b : Handed) → Runs tells status words a b → RunsWhole tells status words a b
 RunsWhole-from_runs one tells status words a b (inl (inl p, same)) = λ bytes site records rest form had is reaches no_site no_read no_write. absurd (p.0 form)

@@ -7,7 +7,7 @@ use Rattle.outside.specs.Streams.{AppendsFront}
 use Rattle.archive_opening.specs.Made.{AreNewDrives, AreNewMedia}
 use Rattle.archive_opening.specs.Seen.{SourceView}
 use Rattle.archive_opening.specs.declared.status.Status.{Status}
-use Rattle.archive_opening.specs.declared.status.Status.TheVariants.{Ok, Usage, NoMemory, Site as SiteRule, Script, ReadFault, WriteFault, TooLong, ListenFault}
+use Rattle.archive_opening.specs.declared.status.Status.TheVariants.{Ok, NoMemory, Script, ReadFault, WriteFault, TooLong}
 use Rattle.replay.specs.Intake.{Took, budget}
 use Rattle.replay.specs.Output.{HaveContents, output_on}
 use Rattle.replay.specs.Promises.{AreSound, KeepsPromises}
@@ -56,9 +56,7 @@ EndsScript ReadFault s a b c happened = MayGoOn c.tail × Rose a.script.faults b
 EndsScript WriteFault s a b c happened = MayGoOn c.tail × Rose a.out.faults b.out.faults × WritesFront s a.out b.out happened
 EndsScript NoMemory s a b c happened = MayGoOn c.tail × WritesFirst s a.out b.out happened
 EndsScript TooLong s a b c happened = MayGoOn c.tail × (b.script.taken ≡ budget) × Wrote s a.out b.out happened
-EndsScript Usage s a b c happened = ⊥
-EndsScript (SiteRule rule item) s a b c happened = ⊥
-EndsScript ListenFault s a b c happened = ⊥
+EndsScript _ s a b c happened = ⊥
 
 -- behind earlier turns of the links the script was read up to some place, these are the turns of all that it brought, and it ended there with this status
 pub record Finishes (s : RunState) (before : List Turn) (a b : World) (status : Status) : Type 0 where

@@ -14,6 +14,7 @@ pub(crate) fn is_replay_form(alloc: Global, words: &[String]) -> Result<bool, No
         Ok(Form::Replay { .. }) => Ok(true),
         Ok(Form::Serve { .. }) => Ok(false),
         Ok(Form::Mill { .. }) => Ok(false),
+        Ok(Form::Durable { .. }) => Ok(false),
         Err(WordsError::Usage) => Ok(false),
         Err(WordsError::NoMemory) => Err(NoMemory),
     }

@@ -4,6 +4,8 @@
 #[cfg(test)]
 mod crowd_tests;
 #[cfg(test)]
+mod durable_tests;
+#[cfg(test)]
 mod fault_tests;
 #[cfg(test)]
 mod gate_tests;

@@ -1,4 +1,4 @@
-use Rattle.std.proofs.Common.{◌≡◌, ◌≤◌, false, sym, subst, arith}
+use Rattle.std.proofs.Common.{◌≡◌, ◌≤◌, false, subst, arith}
 use Rattle.std.specs.Prelude.{IsTrue}
 use Rattle.cta_words.proofs.Spelled.{one_number}
 use Rattle.cta_words.proofs.numbers.number_in.Goals as goal

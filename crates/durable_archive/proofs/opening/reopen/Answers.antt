@@ -45,7 +45,8 @@ returns-in-Ok-restore-clause-begun g c = λ file told.
     let K = g.K.Disk in
     let found = c.in-Ok.opened.1.items in
     let both = c.in-Ok.ensures.found file told in
-    (found, both.0, subst (λ l. StandsFor K.content K.may_leave l.first (map body_of found)) (sym c.new.ensures) both.1)
+    let restored = c.in-Ok-restore.ensures.ok in
+    (found, both.0, restored.right, ap (λ l. l.archive.history) c.new.ensures ∙ restored.history, subst (λ l. StandsFor K.content K.may_leave l.first (map body_of found)) (sym c.new.ensures) both.1)
 
 pub returns-in-Err-restore-clause-back : goal.returns-in-Err-restore-clause-back
 returns-in-Err-restore-clause-back g c = λ file h told keeps low.

@@ -10,5 +10,8 @@ returns-in-Ok-Serve c = longer_spelled _ _ _ _ _ (rw c.in-Ok-Serve.field-0-is at
 pub returns-in-Ok-Mill : goal.returns-in-Ok-Mill
 returns-in-Ok-Mill c = longer_spelled _ _ _ _ _ (rw c.in-Ok-Mill.field-0-is at c.in-Ok-Mill.ensures).0
 
+pub returns-in-Ok-Durable : goal.returns-in-Ok-Durable
+returns-in-Ok-Durable c = longer_spelled _ _ _ _ _ (rw c.in-Ok-Durable.field-0-is at c.in-Ok-Durable.ensures).0
+
 pub returns-in-Err-Usage : goal.returns-in-Err-Usage
 returns-in-Err-Usage c = none_spelled _ (rw c.in-Err-Usage.field-0-is at c.in-Err-Usage.ensures)

@@ -1,0 +1,4 @@
+mod Closers
+mod Mounted
+mod Asked
+mod TakenUp

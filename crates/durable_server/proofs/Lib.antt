@@ -1,0 +1,3 @@
+mod Fronting
+mod Calling
+mod Linked

@@ -1,0 +1,3 @@
+mod Sent
+mod Statuses
+mod NewDrives
